@@ -1,0 +1,17 @@
+pub mod Numbers
+pub mod Walk
+pub mod Each
+pub mod ActionAttributes
+pub mod Actions
+pub mod Selectors
+pub mod RoundTrip
+pub mod Placeless
+pub mod Cards
+pub mod Steps
+pub mod Runs
+pub mod Pages
+pub mod Orders
+pub mod Books
+pub mod RecordLaws
+pub mod Texts
+pub mod Swaps

@@ -1,0 +1,66 @@
+-- What is claimed of reading, writing out and the page: for every book's meaning that keeps the laws. Assumes nothing.
+use mathlib.Core.Path.{_≡_}
+use mathlib.Core.List.{List, [], _∷_, _++_}
+use Prim.Native.Nat.{ℕ, zero, suc, _≤_, _<_}
+use lib.ListN.{length}
+use Rattle.std.specs.declared.result.Result.the-variants.{Ok, Err}
+use Rattle.std.specs.shelf.Lists.{All}
+use Rattle.model.specs.Numbers.{Bytes, Octets}
+use Rattle.model.specs.Faults.{fault}
+use Rattle.model.specs.Attributes.{Attribute, Writable, encode-all}
+use Rattle.model.specs.Walk.{walk, found}
+use Rattle.model.specs.Book.{Meaning, BookLaws}
+use Rattle.model.specs.Reading.{read-filter, Reading}
+use Rattle.model.specs.Counts.{counts}
+use Rattle.model.specs.Writing.{written, write-out}
+use Rattle.model.specs.Page.{State, level}
+use Rattle.model.specs.Runs.{Turn, Run, run, start, page-bytes}
+use Rattle.model.specs.Card.{Card, PageItem, card-of, card-bytes, page-list, open-nests, outermost, page-action-items-bytes}
+use Rattle.model.specs.Reordering.{Spot, page-items-reordered, reading-reordered}
+use Rattle.model.specs.CardReading.{page-items-reading, page-items-counts}
+
+-- the walk over attributes that are written finds them
+abbrev pub Walk-of-encode : Type 0
+Walk-of-encode = (p : ℕ) (l : List Attribute) → All Writable l → walk p (encode-all l) ≡ found p l
+
+-- what is written out within 65,531 bytes reads as before
+abbrev pub Round-trip : Type 0
+Round-trip = (m : Meaning) → BookLaws m → (bs : Bytes) → Octets bs → (r : Reading) → read-filter m bs ≡ Ok r → length (written r) ≤ 65531 → read-filter m (written r) ≡ Ok r
+
+-- two filters that can be written out are written alike exactly when their readings are equal
+abbrev pub Canonical : Type 0
+Canonical = (m : Meaning) → BookLaws m → (bs cs : Bytes) → Octets bs → Octets cs → (free free′ : ℕ) (x y : Bytes) →
+    write-out m free bs ≡ Ok x → write-out m free′ cs ≡ Ok y →
+    (x ≡ y → read-filter m bs ≡ read-filter m cs) × (read-filter m bs ≡ read-filter m cs → x ≡ y)
+
+-- ── the page ──
+-- what holds of a page's state s and its run's card k
+pub record PageAgrees (m : Meaning) (s : State) (k : Card) : Type 0 where
+  pub bytes : page-bytes s ≡ card-bytes k
+  pub nests : level (s .page) ≡ open-nests k
+  -- with no nest open the reader accepts, with the card's reading and counts
+  pub closed : open-nests k ≡ 0 → (r : Reading) × ((read-filter m (page-bytes s) ≡ Ok r) × (page-items-reading m (page-list k) ≡ Ok r) × (counts r ≡ page-items-counts (page-list k)))
+  -- else it refuses by 8 at the outermost open head
+  pub open-still : 0 < open-nests k → read-filter m (page-bytes s) ≡ Err (fault 8 (outermost k) 1)
+
+-- a: after every run the page's bytes are its card's, and so read. (Each part of a run from its start is a run.)
+abbrev pub Page-is-its-card : Type 0
+Page-is-its-card = (m : Meaning) → BookLaws m → (memory : Bytes) → Octets memory → length memory ≤ 65531 → (ts : List Turn) → Run (length memory) ts →
+    PageAgrees m (run m (start memory) ts) (card-of m (start memory) ts)
+
+-- b: every filter that reads, and is written within 65,531 bytes, is so written the page of some run, in memory of just that length
+abbrev pub Every-filter-is-a-page : Type 0
+Every-filter-is-a-page = (m : Meaning) → BookLaws m → (bs : Bytes) → Octets bs → (r : Reading) → read-filter m bs ≡ Ok r → length (written r) ≤ 65531 →
+    (memory : Bytes) → Octets memory → length memory ≡ length (written r) →
+    (ts : List Turn) × (Run (length memory) ts × (page-bytes (run m (start memory) ts) ≡ written r) × (level (run m (start memory) ts .page) ≡ 0))
+
+-- c: with no nest open, one list of the page in any other order reads, each attribute as before in the new order, with the same counts
+abbrev pub Order-is-free : Type 0
+Order-is-free = (m : Meaning) → BookLaws m → (memory : Bytes) → Octets memory → length memory ≤ 65531 → (ts : List Turn) → Run (length memory) ts →
+    (l : List PageItem) → card-of m (start memory) ts ≡ Card.level0 l → (spot : Spot) (π : List ℕ) (r : Reading) → read-filter m (page-bytes (run m (start memory) ts)) ≡ Ok r →
+    (read-filter m (page-action-items-bytes (page-items-reordered spot π l)) ≡ Ok (reading-reordered spot π r)) × (counts (reading-reordered spot π r) ≡ counts r)
+
+pub record Page-laws : Type 0 where
+  pub a : Page-is-its-card
+  pub b : Every-filter-is-a-page
+  pub c : Order-is-free
