@@ -16,7 +16,7 @@ use Rattle.model.specs.Book.{Meaning}
 use Rattle.model.specs.Reading.{text, as-read, the-kind, ActionAttribute, kind, options, index, stats, cookie, in-hw-count, other, Action, Reading, read-filter, FilterOption, class-id, hash, link, divisor, selector, police, actions, indev, pcnt, mark, flags, default}
 use Rattle.model.specs.Counts.{options-in, actions-of, sum-of, counts}
 use Rattle.model.specs.Runs.{run, start, page-bytes}
-use Rattle.model.specs.Card.{ActionItem, CardAction, PageItem, Card, level0, action-item-attribute, action-items-bytes, card-action-attribute, card-actions-bytes, page-action-item-attribute, page-action-items-bytes}
+use Rattle.model.specs.Card.{ActionItem, CardAction, PageItem, Card, level0, action-item-attribute, action-items-bytes, card-action-attribute, card-actions-bytes, page-action-item-attribute, page-items-bytes}
 use Rattle.model.specs.CardReading.{all, action-item-kinds, read-action-item, read-card-action, read-page-item, page-items-reading, card-actions-in, options-of, page-items-counts}
 use Rattle.model.specs.Reordering.{swap, reorder, at, Spot, of-page, of-nest, of-action, of-options, in-page-item, in-action-item, in-card-action, page-items-reordered, in-actions, in-options, in-action, reading-reordered}
 use Rattle.model.specs.Laws.{Order-is-free}
@@ -409,12 +409,12 @@ module _ (m : Meaning) where
       (item-one k (reorder π) (reorder π) (fine-reorder (QO k) Writable nothing nothing (size-of (λ (a : Attribute). a)) π)) n)
       (quiet-at (reorder π) n)) j)) i
 
-  order-of : (l : List PageItem) → All (GoodPageItem m) l → length (page-action-items-bytes l) ≤ 65531 → (spot : Spot) (π : List ℕ) (r : Reading) → read-filter m (page-action-items-bytes l) ≡ Ok r →
-      (read-filter m (page-action-items-bytes (page-items-reordered spot π l)) ≡ Ok (reading-reordered spot π r)) × (counts (reading-reordered spot π r) ≡ counts r)
+  order-of : (l : List PageItem) → All (GoodPageItem m) l → length (page-items-bytes l) ≤ 65531 → (spot : Spot) (π : List ℕ) (r : Reading) → read-filter m (page-items-bytes l) ≡ Ok r →
+      (read-filter m (page-items-bytes (page-items-reordered spot π l)) ≡ Ok (reading-reordered spot π r)) × (counts (reading-reordered spot π r) ≡ counts r)
   order-of l good small spot π r q =
       let f = page-items-fine spot π in
       let l′ = page-items-reordered spot π l in
-      let size : length (page-action-items-bytes l′) ≡ length (page-action-items-bytes l) = size-all page-action-item-attribute l′ ∙ f .sum-e l ∙ sym (size-all page-action-item-attribute l) in
+      let size : length (page-items-bytes l′) ≡ length (page-items-bytes l) = size-all page-action-item-attribute l′ ∙ f .sum-e l ∙ sym (size-all page-action-item-attribute l) in
       let a = page-reads m l good small in
       let b = page-reads m l′ (f .good l good) (omega arith) in
       let was : a .0 ≡ r = ok-same (sym (a .1 .0) ∙ q) in
@@ -429,7 +429,7 @@ order-is-free m laws memory o small ts fair l is spot π r q =
     let h = run-card m memory small ts fair in
     let n = length memory in
     let k : Holds m n (level0 l) (run m (start memory) ts) = subst (λ (c : Card). Holds m n c (run m (start memory) ts)) is h in
-    let bytes : page-bytes (run m (start memory) ts) ≡ page-action-items-bytes l = ap page-bytes (k .1 .0) ∙ take-at (page-action-items-bytes l) (k .0) (length (page-action-items-bytes l)) refl in
-    let size : length (page-action-items-bytes l ++ k .0) ≡ length (page-action-items-bytes l) + length (k .0) = length-append (page-action-items-bytes l) (k .0) in
-    let len : length (page-action-items-bytes l ++ k .0) ≡ n = k .1 .1 in
+    let bytes : page-bytes (run m (start memory) ts) ≡ page-items-bytes l = ap page-bytes (k .1 .0) ∙ take-at (page-items-bytes l) (k .0) (length (page-items-bytes l)) refl in
+    let size : length (page-items-bytes l ++ k .0) ≡ length (page-items-bytes l) + length (k .0) = length-append (page-items-bytes l) (k .0) in
+    let len : length (page-items-bytes l ++ k .0) ≡ n = k .1 .1 in
     order-of m l (k .1 .2) (omega arith) spot π r (ap (read-filter m) (sym bytes) ∙ q)

@@ -21,7 +21,7 @@ use Rattle.model.specs.Reading.{each, kinds, the-kind, AttributeForm, attribut
 use Rattle.model.specs.Writing.{write-attribute, write-action, write-option, written}
 use Rattle.model.specs.Page.{Call, put, open-nest, close, InRange, verdict, State, state, accepted, page-after, memory-after, level}
 use Rattle.model.specs.Runs.{Turn, with-own-memory, Run, after, run, start, page-bytes}
-use Rattle.model.specs.Card.{ActionItem, CardAction, PageItem, card-action, Card, level0, level1, level2, level3, feed, action-item-attribute, action-items-bytes, card-action-attribute, card-actions-bytes, page-action-item-attribute, page-action-items-bytes, card-bytes}
+use Rattle.model.specs.Card.{ActionItem, CardAction, PageItem, card-action, Card, level0, level1, level2, level3, feed, action-item-attribute, action-items-bytes, card-action-attribute, card-actions-bytes, page-action-item-attribute, page-items-bytes, card-bytes}
 use Rattle.model.specs.Laws.{Every-filter-is-a-page}
 use Rattle.model.specs.Selector as selectors
 use Rattle.model.proofs.Walk.{length-encode}
@@ -130,7 +130,7 @@ page-item-same (mark x) = refl
 page-item-same (flags n) = refl
 page-item-same (default w x) = refl
 
-page-items-same : (r : Reading) → page-action-items-bytes (map option-page-item r) ≡ written r
+page-items-same : (r : Reading) → page-items-bytes (map option-page-item r) ≡ written r
 page-items-same r = ap encode-all (map-same page-action-item-attribute option-page-item write-option page-item-same r)
 
 -- ── runs that are accepted ──
@@ -194,7 +194,7 @@ module _ (m : Meaning) (n : ℕ) (small : n ≤ 65531) where
   put0 : (l : List PageItem) (w : ℕ) (x : Bytes) (o : FilterOption) → w < 65536 → Octets x → ¬ (type-of w ≡ 7) → ((p : ℕ) → read-option m p w x ≡ Ok o) →
       Reach (level0 l) (with-own-memory (put w x) ∷ []) (4 + rounded (length x)) (level0 (l ++ PageItem.leaf (attribute w x) ∷ []))
   put0 l w x o hw ox no7 reads = one (level0 l) (put w x) (4 + rounded (length x)) (hw, ox) refl
-      (λ tail len good r. rw (home (level0 l) tail len, ne-eqb (type-of w) 7 no7, reads (length (page-action-items-bytes l)), room (level0 l) (4 + rounded (length x)) r))
+      (λ tail len good r. rw (home (level0 l) tail len, ne-eqb (type-of w) 7 no7, reads (length (page-items-bytes l)), room (level0 l) (4 + rounded (length x)) r))
 
   put2 : (l : List PageItem) (v : ℕ) (ds : List CardAction) (u : ℕ) (is : List ActionItem) (w : ℕ) (x : Bytes) (a : ActionAttribute) → w < 65536 → Octets x → ¬ (type-of w ≡ 2) → ((p : ℕ) → read-attribute m [] p w x ≡ Ok a) →
       Reach (level2 l v ds u is) (with-own-memory (put w x) ∷ []) (4 + rounded (length x)) (level2 l v ds u (is ++ ActionItem.leaf (attribute w x) ∷ []))
@@ -222,7 +222,7 @@ module _ (m : Meaning) (n : ℕ) (small : n ≤ 65531) where
       Reach (level2 l v ds u is) (with-own-memory close ∷ []) 0 (level1 l v (ds ++ card-action u is ∷ []))
   close2 l v ds u is a reads =
       let k = level2 l v ds u is in
-      let A = page-action-items-bytes l ++ (head 0 v ++ card-actions-bytes ds) in
+      let A = page-items-bytes l ++ (head 0 v ++ card-actions-bytes ds) in
       one k close 0 tt (omega arith) (λ tail len good r.
       let there : read-action m (length A) 0 (part (length A + 4) (length (A ++ (head 0 u ++ action-items-bytes is)) - (length A + 4)) ((A ++ (head 0 u ++ action-items-bytes is)) ++ tail)) ≡ Ok a =
       ap (read-action m (length A) 0) (behind A (action-items-bytes is) tail u) ∙ reads (length A) in

@@ -20,7 +20,7 @@ use Rattle.model.specs.Reading.{each, Action, FilterOption, Reading, read-opti
 use Rattle.model.specs.Counts.{actions-of, options-in, sum-of, counts}
 use Rattle.model.specs.Page.{Call, InRange, verdict, State, state, accepted, page-after, memory-after}
 use Rattle.model.specs.Runs.{Turn, with-own-memory, with-other-memory, TurnInRange, Run, call-of, answer, after, run, start, page-bytes}
-use Rattle.model.specs.Card.{CardAction, PageItem, Card, level0, level1, level2, level3, feed, card-from, card-of, page-action-item-attribute, page-action-items-bytes, card-actions-bytes, action-items-bytes, card-bytes, page-list, open-nests, outermost}
+use Rattle.model.specs.Card.{CardAction, PageItem, Card, level0, level1, level2, level3, feed, card-from, card-of, page-action-item-attribute, page-items-bytes, card-actions-bytes, action-items-bytes, card-bytes, page-list, open-nests, outermost}
 use Rattle.model.specs.CardReading.{read-page-item, page-items-reading, card-actions-in, options-of, page-items-counts}
 use Rattle.model.specs.Laws.{PageAgrees, Page-is-its-card}
 use Rattle.model.proofs.Walk.{walk-of-encode, step-over, length-encode}
@@ -74,59 +74,59 @@ module _ (m : Meaning) where
   all-writable : (l : List PageItem) → All (GoodPageItem m) l → All Writable (map page-action-item-attribute l)
   all-writable l h = all-map (GoodPageItem m) Writable page-action-item-attribute (λ e g. g .writable) l h
 
-  pub page-reads : (l : List PageItem) → All (GoodPageItem m) l → length (page-action-items-bytes l) ≤ 65531 →
-      (r : Reading) × ((read-filter m (page-action-items-bytes l) ≡ Ok r) × (page-items-reading m l ≡ Ok r) × (counts r ≡ page-items-counts l))
+  pub page-reads : (l : List PageItem) → All (GoodPageItem m) l → length (page-items-bytes l) ≤ 65531 →
+      (r : Reading) × ((read-filter m (page-items-bytes l) ≡ Ok r) × (page-items-reading m l ≡ Ok r) × (counts r ≡ page-items-counts l))
   page-reads l h small =
       let r = options-from l h in
-      let inner : read-options m (page-action-items-bytes l) ≡ Ok (r .0) =
+      let inner : read-options m (page-items-bytes l) ≡ Ok (r .0) =
       ap (each 1 (read-option m)) (walk-of-encode 0 (map page-action-item-attribute l) (all-writable l h)) ∙ found-reads 1 (read-option m) page-action-item-attribute (read-page-item m) l (r .0) (r .1 .0) 0 in
       let many = lengths (Reads (read-option m) page-action-item-attribute (read-page-item m)) l (r .0) (r .1 .0) in (
         r .0,
         (
-          ap (λ (t : Bool). cond t (Err (fault 1 0 1)) (read-options m (page-action-items-bytes l))) (le-ltb 65531 (length (page-action-items-bytes l)) small) ∙ inner,
+          ap (λ (t : Bool). cond t (Err (fault 1 0 1)) (read-options m (page-items-bytes l))) (le-ltb 65531 (length (page-items-bytes l)) small) ∙ inner,
           all-reads 1 (read-option m) page-action-item-attribute (read-page-item m) l (r .0) (r .1 .0),
           (λ i. record { of-options = many i; of-actions = r .1 .1 i; of-action-options = r .1 .2 i }),
         ),
       )
 
   -- the reader stops at a head whose length field is 0
-  stops : (n p c d : ℕ) (rest : Bytes) (l : List PageItem) → All (GoodPageItem m) l → length (page-action-items-bytes l) < n →
-      each 1 (read-option m) (walk-in n p (page-action-items-bytes l ++ (0 ∷ 0 ∷ c ∷ d ∷ rest))) ≡ Err (fault 8 (p + length (page-action-items-bytes l)) 1)
+  stops : (n p c d : ℕ) (rest : Bytes) (l : List PageItem) → All (GoodPageItem m) l → length (page-items-bytes l) < n →
+      each 1 (read-option m) (walk-in n p (page-items-bytes l ++ (0 ∷ 0 ∷ c ∷ d ∷ rest))) ≡ Err (fault 8 (p + length (page-items-bytes l)) 1)
   stops zero p c d rest l h fuel = absurd (omega arith)
   stops (suc n) p c d rest [] h fuel = rw (le-ltb (4 + length rest) 0 (omega arith), walk-in) (ap {B = Read Reading} (λ q. Err (fault 8 q 1)) (omega arith))
   stops (suc n) p c d rest (e ∷ l) h fuel =
       let a = page-action-item-attribute e in
       let Z : Bytes = 0 ∷ 0 ∷ c ∷ d ∷ rest in
       let p′ = p + rounded (4 + length (a .payload)) in
-      let size : length (encode a ++ page-action-items-bytes l) ≡ length (encode a) + length (page-action-items-bytes l) = length-append (encode a) (page-action-items-bytes l) in
+      let size : length (encode a ++ page-items-bytes l) ≡ length (encode a) + length (page-items-bytes l) = length-append (encode a) (page-items-bytes l) in
       let one : length (encode a) ≡ rounded (4 + length (a .payload)) = length-encode a in
-      let i : each 1 (read-option m) (walk-in n p′ (page-action-items-bytes l ++ Z)) ≡ Err (fault 8 (p′ + length (page-action-items-bytes l)) 1) = stops n p′ c d rest l (h .1) (omega arith) in
-      let far : p′ + length (page-action-items-bytes l) ≡ p + length (encode a ++ page-action-items-bytes l) = omega arith in
-      ap (λ (b : Bytes). each 1 (read-option m) (walk-in (suc n) p b)) (append-assoc (encode a) (page-action-items-bytes l) Z)
-      ∙ ap (each 1 (read-option m)) (step-over n p a (page-action-items-bytes l ++ Z) (h .0 .writable))
-      ∙ ap (λ (z : Read FilterOption). z >>= λ o. each 1 (read-option m) (walk-in n p′ (page-action-items-bytes l ++ Z)) >>= λ r. Ok (o ∷ r)) (h .0 .reads .anywhere p)
+      let i : each 1 (read-option m) (walk-in n p′ (page-items-bytes l ++ Z)) ≡ Err (fault 8 (p′ + length (page-items-bytes l)) 1) = stops n p′ c d rest l (h .1) (omega arith) in
+      let far : p′ + length (page-items-bytes l) ≡ p + length (encode a ++ page-items-bytes l) = omega arith in
+      ap (λ (b : Bytes). each 1 (read-option m) (walk-in (suc n) p b)) (append-assoc (encode a) (page-items-bytes l) Z)
+      ∙ ap (each 1 (read-option m)) (step-over n p a (page-items-bytes l ++ Z) (h .0 .writable))
+      ∙ ap (λ (z : Read FilterOption). z >>= λ o. each 1 (read-option m) (walk-in n p′ (page-items-bytes l ++ Z)) >>= λ r. Ok (o ∷ r)) (h .0 .reads .anywhere p)
       ∙ ap (λ (z : Read Reading). z >>= λ r. Ok (h .0 .made ∷ r)) i
       ∙ ap {B = Read Reading} (λ q. Err (fault 8 q 1)) far
 
-  stopped : (l : List PageItem) (v : ℕ) (rest : Bytes) → All (GoodPageItem m) l → length (page-action-items-bytes l ++ (head 0 v ++ rest)) ≤ 65531 → read-filter m (page-action-items-bytes l ++ (head 0 v ++ rest)) ≡ Err (fault 8 (length (page-action-items-bytes l)) 1)
+  stopped : (l : List PageItem) (v : ℕ) (rest : Bytes) → All (GoodPageItem m) l → length (page-items-bytes l ++ (head 0 v ++ rest)) ≤ 65531 → read-filter m (page-items-bytes l ++ (head 0 v ++ rest)) ≡ Err (fault 8 (length (page-items-bytes l)) 1)
   stopped l v rest h small =
-      let B = page-action-items-bytes l ++ (head 0 v ++ rest) in
-      let size : length B ≡ length (page-action-items-bytes l) + length (head 0 v ++ rest) = length-append (page-action-items-bytes l) (head 0 v ++ rest) in
+      let B = page-items-bytes l ++ (head 0 v ++ rest) in
+      let size : length B ≡ length (page-items-bytes l) + length (head 0 v ++ rest) = length-append (page-items-bytes l) (head 0 v ++ rest) in
       ap (λ (t : Bool). cond t (Err (fault 1 0 1)) (read-options m B)) (le-ltb 65531 (length B) small)
       ∙ stops (length B) 0 _ _ rest l h (omega arith)
-      ∙ ap {B = Read Reading} (λ q. Err (fault 8 q 1)) (zero-add (length (page-action-items-bytes l)))
+      ∙ ap {B = Read Reading} (λ q. Err (fault 8 q 1)) (zero-add (length (page-items-bytes l)))
 
   told-card : (k : Card) → GoodCard m k → length (card-bytes k) ≤ 65531 → 0 < open-nests k → read-filter m (card-bytes k) ≡ Err (fault 8 (outermost k) 1)
   told-card (level0 l) good small h = absurd (omega arith)
   told-card (level1 l v ds) good small h = stopped l v (card-actions-bytes ds) (good .0) small
   told-card (level2 l v ds u is) good small h =
-      let e = append-assoc (page-action-items-bytes l) (head 0 v ++ card-actions-bytes ds) (head 0 u ++ action-items-bytes is) in
+      let e = append-assoc (page-items-bytes l) (head 0 v ++ card-actions-bytes ds) (head 0 u ++ action-items-bytes is) in
       ap (read-filter m) e ∙ stopped l v (card-actions-bytes ds ++ (head 0 u ++ action-items-bytes is)) (good .0) (subst (λ (b : Bytes). length b ≤ 65531) e small)
   told-card (level3 l v ds u is o os) good small h =
       let X = head 0 u ++ action-items-bytes is in
       let Y = head 0 o ++ encode-all os in
-      let e : ((page-action-items-bytes l ++ (head 0 v ++ card-actions-bytes ds)) ++ X) ++ Y ≡ page-action-items-bytes l ++ (head 0 v ++ (card-actions-bytes ds ++ (X ++ Y))) =
-      append-assoc (page-action-items-bytes l ++ (head 0 v ++ card-actions-bytes ds)) X Y ∙ append-assoc (page-action-items-bytes l) (head 0 v ++ card-actions-bytes ds) (X ++ Y) in
+      let e : ((page-items-bytes l ++ (head 0 v ++ card-actions-bytes ds)) ++ X) ++ Y ≡ page-items-bytes l ++ (head 0 v ++ (card-actions-bytes ds ++ (X ++ Y))) =
+      append-assoc (page-items-bytes l ++ (head 0 v ++ card-actions-bytes ds)) X Y ∙ append-assoc (page-items-bytes l) (head 0 v ++ card-actions-bytes ds) (X ++ Y) in
       ap (read-filter m) e ∙ stopped l v (card-actions-bytes ds ++ (X ++ Y)) (good .0) (subst (λ (b : Bytes). length b ≤ 65531) e small)
 
   told-closed : (k : Card) → GoodCard m k → length (card-bytes k) ≤ 65531 → open-nests k ≡ 0 → (r : Reading) × ((read-filter m (card-bytes k) ≡ Ok r) × (page-items-reading m (page-list k) ≡ Ok r) × (counts r ≡ page-items-counts (page-list k)))

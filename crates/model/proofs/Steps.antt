@@ -16,7 +16,7 @@ use Rattle.model.specs.Attributes.{rounded, type-of, Attribute, attribute, Wri
 use Rattle.model.specs.Book.{Meaning}
 use Rattle.model.specs.Reading.{read-action, read-attribute, read-option}
 use Rattle.model.specs.Page.{Page, Call, put, open-nest, close, strike, InRange, check, only-fault, over, verdict, page-after, memory-after, State, state}
-use Rattle.model.specs.Card.{ActionItem, PageItem, card-action, Card, level0, level1, level2, level3, feed, action-item-attribute, action-items-bytes, card-action-attribute, card-actions-bytes, page-action-item-attribute, page-action-items-bytes, card-bytes}
+use Rattle.model.specs.Card.{ActionItem, PageItem, card-action, Card, level0, level1, level2, level3, feed, action-item-attribute, action-items-bytes, card-action-attribute, card-actions-bytes, page-action-item-attribute, page-items-bytes, card-bytes}
 use Rattle.model.proofs.Walk.{length-encode}
 use Rattle.model.proofs.Each.{err-not-ok, ok-same, chain}
 use Rattle.model.proofs.Cards.{GoodActionItem, GoodCardAction, GoodPageItem, card-action-good, leaf-good, nest-good}
@@ -78,9 +78,9 @@ behind A I tail v =
 -- ── the page of a card ──
 abbrev pub heads-of : Card → List ℕ
 heads-of (level0 l) = []
-heads-of (level1 l v ds) = length (page-action-items-bytes l) ∷ []
-heads-of (level2 l v ds u is) = length (page-action-items-bytes l ++ (head 0 v ++ card-actions-bytes ds)) ∷ length (page-action-items-bytes l) ∷ []
-heads-of (level3 l v ds u is o os) = length ((page-action-items-bytes l ++ (head 0 v ++ card-actions-bytes ds)) ++ (head 0 u ++ action-items-bytes is)) ∷ length (page-action-items-bytes l ++ (head 0 v ++ card-actions-bytes ds)) ∷ length (page-action-items-bytes l) ∷ []
+heads-of (level1 l v ds) = length (page-items-bytes l) ∷ []
+heads-of (level2 l v ds u is) = length (page-items-bytes l ++ (head 0 v ++ card-actions-bytes ds)) ∷ length (page-items-bytes l) ∷ []
+heads-of (level3 l v ds u is o os) = length ((page-items-bytes l ++ (head 0 v ++ card-actions-bytes ds)) ++ (head 0 u ++ action-items-bytes is)) ∷ length (page-items-bytes l ++ (head 0 v ++ card-actions-bytes ds)) ∷ length (page-items-bytes l) ∷ []
 
 abbrev pub page-of : ℕ → Card → Page
 page-of n k = record { size = n; used = length (card-bytes k); heads = heads-of k }
@@ -222,7 +222,7 @@ module _ (m : Meaning) (n : ℕ) (small : n ≤ 65531) where
       let room = free-from n k (4 + rounded (length x)) _ (c .1 .1) in
       let ok = put-writable n k w x small (in-range .0) room in
       put-grown m n k (level2 l v ds u (is ++ ActionItem.leaf (attribute w x) ∷ [])) w x tail
-      (inside (page-action-items-bytes l ++ (head 0 v ++ card-actions-bytes ds)) (head 0 u) (action-items-bytes is) _ (encode (attribute w x)) (encode-snoc action-item-attribute is (ActionItem.leaf (attribute w x)))) len room
+      (inside (page-items-bytes l ++ (head 0 v ++ card-actions-bytes ds)) (head 0 u) (action-items-bytes is) _ (encode (attribute w x)) (encode-snoc action-item-attribute is (ActionItem.leaf (attribute w x)))) len room
       (good .0, good .1, good .2, good .3, all-push GoodActionItem is (ActionItem.leaf (attribute w x)) (good .4) (ok, not-eq (type-of w) 2 (b .0)))
   step (level3 l v ds u is o os) (put w x) tail good len in-range q =
       let k = level3 l v ds u is o os in
@@ -230,7 +230,7 @@ module _ (m : Meaning) (n : ℕ) (small : n ≤ 65531) where
       let room = free-from n k (4 + rounded (length x)) _ (a .1) in
       let ok = put-writable n k w x small (in-range .0) room in
       put-grown m n k (level3 l v ds u is o (os ++ attribute w x ∷ [])) w x tail
-      (inside ((page-action-items-bytes l ++ (head 0 v ++ card-actions-bytes ds)) ++ (head 0 u ++ action-items-bytes is)) (head 0 o) (encode-all os) _ (encode (attribute w x)) (encode-push os (attribute w x))) len room
+      (inside ((page-items-bytes l ++ (head 0 v ++ card-actions-bytes ds)) ++ (head 0 u ++ action-items-bytes is)) (head 0 o) (encode-all os) _ (encode (attribute w x)) (encode-push os (attribute w x))) len room
       (good .0, good .1, good .2, good .3, good .4, good .5, all-push Writable os (attribute w x) (good .6) ok)
   step (level0 l) (open-nest t) tail good len in-range q =
       let k = level0 l in
@@ -259,27 +259,27 @@ module _ (m : Meaning) (n : ℕ) (small : n ≤ 65531) where
       let a = checked (eqb (length (card-bytes (level0 l) ++ tail)) n) _ _ q in err-not-ok _ tt (a .1)
   step (level1 l v ds) close tail good len in-range q =
       let I = card-actions-bytes ds in
-      let short : length I ≤ 65531 = inner-short (page-action-items-bytes l) I tail v n len small in
-      closed m n (level0 (l ++ PageItem.nest v ds ∷ [])) (page-action-items-bytes l) I tail v (rounded-all (map card-action-attribute ds)) (encode-snoc page-action-item-attribute l (PageItem.nest v ds)) len
+      let short : length I ≤ 65531 = inner-short (page-items-bytes l) I tail v n len small in
+      closed m n (level0 (l ++ PageItem.nest v ds ∷ [])) (page-items-bytes l) I tail v (rounded-all (map card-action-attribute ds)) (encode-snoc page-action-item-attribute l (PageItem.nest v ds)) len
       (all-push (GoodPageItem m) l (PageItem.nest v ds) (good .0) (subst (λ (w : ℕ). GoodPageItem m (PageItem.nest w ds)) (good .1) (nest-good m ds (good .2) (record { word16 = omega arith; short = short }))))
   step (level2 l v ds u is) close tail good len in-range q =
       let k = level2 l v ds u is in
-      let A = page-action-items-bytes l ++ (head 0 v ++ card-actions-bytes ds) in
+      let A = page-items-bytes l ++ (head 0 v ++ card-actions-bytes ds) in
       let I = action-items-bytes is in
       let short : length I ≤ 65531 = inner-short A I tail u n len small in
       let a = checked (eqb (length (card-bytes k ++ tail)) n) _ _ q in
       let r = only-ok (read-action m (length A) 0 (part (length A + 4) (length (A ++ (head 0 u ++ I)) - (length A + 4)) ((A ++ (head 0 u ++ I)) ++ tail))) (a .1) in
       let read : read-action m (length A) 0 I ≡ Ok (r .0) = ap (read-action m (length A) 0) (sym (behind A I tail u)) ∙ r .1 in
       closed m n (level1 l v (ds ++ card-action u is ∷ [])) A I tail u (rounded-all (map action-item-attribute is))
-      (inside (page-action-items-bytes l) (head 0 v) (card-actions-bytes ds) _ (encode (attribute u I)) (encode-snoc card-action-attribute ds (card-action u is))) len
+      (inside (page-items-bytes l) (head 0 v) (card-actions-bytes ds) _ (encode (attribute u I)) (encode-snoc card-action-attribute ds (card-action u is))) len
       (good .0, good .1, all-push (GoodCardAction m) ds (card-action u is) (good .2) (card-action-good m u (length A) is (r .0) (good .4) (record { word16 = good .3; short = short }) read))
   step (level3 l v ds u is o os) close tail good len in-range q =
-      let A = (page-action-items-bytes l ++ (head 0 v ++ card-actions-bytes ds)) ++ (head 0 u ++ action-items-bytes is) in
+      let A = (page-items-bytes l ++ (head 0 v ++ card-actions-bytes ds)) ++ (head 0 u ++ action-items-bytes is) in
       let I = encode-all os in
       let short : length I ≤ 65531 = inner-short A I tail o n len small in
       let word : 0x8002 ≡ o = good .5 in
       closed m n (level2 l v ds u (is ++ ActionItem.nest o os ∷ [])) A I tail o (rounded-all os)
-      (inside (page-action-items-bytes l ++ (head 0 v ++ card-actions-bytes ds)) (head 0 u) (action-items-bytes is) _ (encode (attribute o I)) (encode-snoc action-item-attribute is (ActionItem.nest o os))) len
+      (inside (page-items-bytes l ++ (head 0 v ++ card-actions-bytes ds)) (head 0 u) (action-items-bytes is) _ (encode (attribute o I)) (encode-snoc action-item-attribute is (ActionItem.nest o os))) len
       (good .0, good .1, good .2, good .3, all-push GoodActionItem is (ActionItem.nest o os) (good .4) (record { word16 = omega arith; short = short }, word, good .6))
   step (level0 l) strike tail good len in-range q =
       let a = checked (eqb (length (card-bytes (level0 l) ++ tail)) n) _ _ q in err-not-ok _ tt (a .1)

@@ -26,5 +26,37 @@ pub record BookLaws (m : Meaning) : Type 0 where
   pub octets : (k : Bytes) (w : ℕ) (x : Bytes) (w′ : ℕ) (x′ : Bytes) → Octets x → m k w x ≡ accept w′ x′ → Octets x′
   pub numbered : (k : Bytes) (w : ℕ) (x : Bytes) (n need : ℕ) → m k w x ≡ refuse n need → (1 ≤ n) × (n ≤ 255)
 
+-- ── the two calls ──
+-- the first answers the written word and the payload's length, or the refusal
+pub data Judgement : Type 0 where
+  written-as : (word length : ℕ) → Judgement
+  refused-by : (number need : ℕ) → Judgement
+
+abbrev pub judgement : Answer → Judgement
+judgement (accept w x) = written-as w (length x)
+judgement (refuse n need) = refused-by n need
+
+-- the second writes the payload into memory of just that length; other memory, or a refused option, gets a no and is untouched
+abbrev pub writes : Answer → (memory : Bytes) → Bool
+writes (accept w x) mem = eqb (length x) (length mem)
+writes (refuse n need) mem = false
+
+abbrev pub memory-after-writing : Answer → (memory : Bytes) → Bytes
+memory-after-writing (accept w x) mem = cond (eqb (length x) (length mem)) x mem
+memory-after-writing (refuse n need) mem = mem
+
+-- memory of the length that the first call tells is filled by the second, with what the book then accepts as it is; any other is kept
+pub record Calls-agree (m : Meaning) : Type 0 where
+  pub filled : (k : Bytes) (w : ℕ) (x : Bytes) (w′ n : ℕ) (mem : Bytes) → judgement (m k w x) ≡ written-as w′ n → length mem ≡ n →
+      (writes (m k w x) mem ≡ true) × (length (memory-after-writing (m k w x) mem) ≡ n)
+      × (m k w′ (memory-after-writing (m k w x) mem) ≡ accept w′ (memory-after-writing (m k w x) mem))
+  pub kept : (k : Bytes) (w : ℕ) (x mem : Bytes) → writes (m k w x) mem ≡ false → memory-after-writing (m k w x) mem ≡ mem
+  pub other-length : (k : Bytes) (w : ℕ) (x : Bytes) (w′ n : ℕ) (mem : Bytes) → judgement (m k w x) ≡ written-as w′ n → ¬ (length mem ≡ n) → writes (m k w x) mem ≡ false
+  pub refusal : (k : Bytes) (w : ℕ) (x : Bytes) (n need : ℕ) (mem : Bytes) → judgement (m k w x) ≡ refused-by n need → writes (m k w x) mem ≡ false
+
+abbrev pub Book-calls-agree : Type 0
+Book-calls-agree = (m : Meaning) → BookLaws m → Calls-agree m
+
+-- ── the plain book ──
 abbrev pub plain : Meaning
 plain k w x = accept w x

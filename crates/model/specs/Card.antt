@@ -82,14 +82,14 @@ abbrev pub page-action-item-attribute : PageItem → Attribute
 page-action-item-attribute (leaf a) = a
 page-action-item-attribute (nest w l) = attribute w (card-actions-bytes l)
 
-abbrev pub page-action-items-bytes : List PageItem → Bytes
-page-action-items-bytes l = encode-all (map page-action-item-attribute l)
+abbrev pub page-items-bytes : List PageItem → Bytes
+page-items-bytes l = encode-all (map page-action-item-attribute l)
 
 abbrev pub card-bytes : Card → Bytes
-card-bytes (level0 l) = page-action-items-bytes l
-card-bytes (level1 l v ds) = page-action-items-bytes l ++ (head 0 v ++ card-actions-bytes ds)
-card-bytes (level2 l v ds u is) = (page-action-items-bytes l ++ (head 0 v ++ card-actions-bytes ds)) ++ (head 0 u ++ action-items-bytes is)
-card-bytes (level3 l v ds u is o os) = ((page-action-items-bytes l ++ (head 0 v ++ card-actions-bytes ds)) ++ (head 0 u ++ action-items-bytes is)) ++ (head 0 o ++ encode-all os)
+card-bytes (level0 l) = page-items-bytes l
+card-bytes (level1 l v ds) = page-items-bytes l ++ (head 0 v ++ card-actions-bytes ds)
+card-bytes (level2 l v ds u is) = (page-items-bytes l ++ (head 0 v ++ card-actions-bytes ds)) ++ (head 0 u ++ action-items-bytes is)
+card-bytes (level3 l v ds u is o os) = ((page-items-bytes l ++ (head 0 v ++ card-actions-bytes ds)) ++ (head 0 u ++ action-items-bytes is)) ++ (head 0 o ++ encode-all os)
 
 abbrev pub page-list : Card → List PageItem
 page-list (level0 l) = l
@@ -105,4 +105,4 @@ open-nests (level3 l v ds u is o os) = 3
 
 -- the place of the outermost open head
 abbrev pub outermost : Card → ℕ
-outermost k = length (page-action-items-bytes (page-list k))
+outermost k = length (page-items-bytes (page-list k))

@@ -1,23 +1,34 @@
 -- What is claimed of reading, writing out and the page: for every book's meaning that keeps the laws. Assumes nothing.
 use mathlib.Core.Path.{_≡_}
 use mathlib.Core.List.{List, [], _∷_, _++_}
-use Prim.Native.Nat.{ℕ, zero, suc, _≤_, _<_}
-use lib.ListN.{length}
+use Prim.Native.Nat.{ℕ, _+_, _-_, _≤_, _<_}
+use lib.ListN.{length, drop}
 use Rattle.std.specs.declared.result.Result.the-variants.{Ok, Err}
 use Rattle.std.specs.shelf.Lists.{All}
-use Rattle.model.specs.Numbers.{Bytes, Octets}
+use Rattle.model.specs.Numbers.{Bytes, Octets, part, le}
 use Rattle.model.specs.Faults.{fault}
-use Rattle.model.specs.Attributes.{Attribute, Writable, encode-all}
-use Rattle.model.specs.Walk.{walk, found}
+use Rattle.model.specs.Attributes.{rounded, Attribute, Writable, encode-all}
+use Rattle.model.specs.Walk.{done, bad, item, walk, found}
 use Rattle.model.specs.Book.{Meaning, BookLaws}
 use Rattle.model.specs.Reading.{read-filter, Reading}
 use Rattle.model.specs.Counts.{counts}
 use Rattle.model.specs.Writing.{written, write-out}
 use Rattle.model.specs.Page.{State, level}
 use Rattle.model.specs.Runs.{Turn, Run, run, start, page-bytes}
-use Rattle.model.specs.Card.{Card, PageItem, card-of, card-bytes, page-list, open-nests, outermost, page-action-items-bytes}
+use Rattle.model.specs.Card.{Card, PageItem, card-of, card-bytes, page-list, open-nests, outermost, page-items-bytes}
 use Rattle.model.specs.Reordering.{Spot, page-items-reordered, reading-reordered}
 use Rattle.model.specs.CardReading.{page-items-reading, page-items-counts}
+
+-- the walk, head by head: what it finds at the front of bs, whose first byte has the place p
+pub record Walk-goes-by-heads : Type 0 where
+  pub ended : (p : ℕ) → walk p [] ≡ done
+  -- fewer than 4 bytes remain; the length field exceeds what remains; it is below 4
+  pub cut-off : (p : ℕ) (bs : Bytes) → 0 < length bs → length bs < 4 → walk p bs ≡ bad 6 p
+  pub beyond : (p : ℕ) (bs : Bytes) → 4 ≤ length bs → length bs < le 0 2 bs → walk p bs ≡ bad 7 p
+  pub below : (p : ℕ) (bs : Bytes) → 4 ≤ length bs → le 0 2 bs < 4 → walk p bs ≡ bad 8 p
+  -- else an attribute, and the next begins at its length rounded up to 4
+  pub onward : (p : ℕ) (bs : Bytes) → 4 ≤ le 0 2 bs → le 0 2 bs ≤ length bs →
+      walk p bs ≡ item p (le 2 2 bs) (part 4 (le 0 2 bs - 4) bs) (walk (p + rounded (le 0 2 bs)) (drop (rounded (le 0 2 bs)) bs))
 
 -- the walk over attributes that are written finds them
 abbrev pub Walk-of-encode : Type 0
@@ -58,7 +69,7 @@ Every-filter-is-a-page = (m : Meaning) → BookLaws m → (bs : Bytes) → Octet
 abbrev pub Order-is-free : Type 0
 Order-is-free = (m : Meaning) → BookLaws m → (memory : Bytes) → Octets memory → length memory ≤ 65531 → (ts : List Turn) → Run (length memory) ts →
     (l : List PageItem) → card-of m (start memory) ts ≡ Card.level0 l → (spot : Spot) (π : List ℕ) (r : Reading) → read-filter m (page-bytes (run m (start memory) ts)) ≡ Ok r →
-    (read-filter m (page-action-items-bytes (page-items-reordered spot π l)) ≡ Ok (reading-reordered spot π r)) × (counts (reading-reordered spot π r) ≡ counts r)
+    (read-filter m (page-items-bytes (page-items-reordered spot π l)) ≡ Ok (reading-reordered spot π r)) × (counts (reading-reordered spot π r) ≡ counts r)
 
 pub record Page-laws : Type 0 where
   pub a : Page-is-its-card

@@ -12,6 +12,7 @@ pub mod Reading
 pub mod Counts
 pub mod Writing
 pub mod Page
+pub mod Refusals
 pub mod Runs
 pub mod Card
 pub mod CardReading

@@ -1,5 +1,6 @@
 -- One list of a page in another order. Assumes nothing.
-use mathlib.Core.List.{List, [], _∷_}
+use mathlib.Core.Path.{_≡_}
+use mathlib.Core.List.{List, [], _∷_, List·Permᴰ}
 use Prim.Native.Nat.{ℕ, zero, suc}
 use Rattle.model.specs.Attributes.{Attribute}
 use Rattle.model.specs.Reading.{Action, ActionAttribute, kind, options, index, stats, cookie, in-hw-count, other, FilterOption, class-id, hash, link, divisor, selector, police, actions, indev, pcnt, mark, flags, default, Reading}
@@ -15,6 +16,10 @@ swap (suc i) (a ∷ b ∷ l) = a ∷ swap i (b ∷ l)
 abbrev pub reorder : {A : Type 0} → List ℕ → List A → List A
 reorder [] l = l
 reorder (i ∷ is) l = reorder is (swap i l)
+
+-- any order of a list is reached by such swaps: a permutation, as mathlib has it, is a reordering
+abbrev pub Every-order-is-reached : Type 1
+Every-order-is-reached = (A : Type 0) (l l′ : List A) → List·Permᴰ l l′ → (π : List ℕ) × (reorder π l ≡ l′)
 
 -- the i-th element changed
 abbrev pub at : {A : Type 0} → ℕ → (A → A) → List A → List A

@@ -4,6 +4,7 @@ use mathlib.Core.List.{List, [], _∷_, _++_}
 use mathlib.Core.Bool.{Bool, true, false, cond, _&&_}
 use Prim.Native.Nat.{ℕ, zero, suc, _≤_}
 use lib.Dec.{T, leb, ltb, eqb}
+use Rattle.std.specs.Text.{Utf8}
 use Rattle.model.specs.Numbers.{Bytes}
 
 -- a character's length by its first byte, 0 where none begins so: the rule of the table of 256
@@ -43,6 +44,10 @@ is-text bs = test 0 0 0 bs
 
 abbrev pub Test-is-grammar : Type 0
 Test-is-grammar = (bs : Bytes) → (T (is-text bs) → Text bs) × (Text bs → T (is-text bs))
+
+-- the grammar, and so the test, is the standard library's UTF-8: encodings of scalar values, one after another
+abbrev pub Grammar-is-utf8 : Type 0
+Grammar-is-utf8 = (bs : Bytes) → (Text bs → Utf8 bs) × (Utf8 bs → Text bs) × (T (is-text bs) → Utf8 bs) × (Utf8 bs → T (is-text bs))
 
 -- a text loses one last zero if it has one
 abbrev pub stripped : Bytes → Bytes

@@ -1,12 +1,13 @@
 -- The written form of a reading, and when writing out is refused. Assumes nothing.
+use mathlib.Core.Path.{_≡_}
 use mathlib.Core.List.{List, [], _∷_, _++_, map}
 use mathlib.Core.Bool.{Bool, true, false, cond}
 use Prim.Native.Nat.{ℕ, _+_, _*_, _≤_}
-use lib.ListN.{length}
+use lib.ListN.{length, take, drop, getD}
 use lib.Dec.{ltb}
 use Rattle.std.specs.declared.result.Result.the-variants.{Ok, Err}
 use Rattle.model.specs.Numbers.{Bytes, le-bytes}
-use Rattle.model.specs.Faults.{fault, Read, _>>=_}
+use Rattle.model.specs.Faults.{FaultNumbers, fault, Read, _>>=_}
 use Rattle.model.specs.Attributes.{Attribute, attribute, encode-all}
 use Rattle.model.specs.Walk.{Walked, done, bad, item, walk}
 use Rattle.model.specs.Book.{Meaning}
@@ -43,11 +44,6 @@ write-option (default w x) = attribute w x
 abbrev pub written : Reading → Bytes
 written r = encode-all (map write-option r)
 
--- no payload exceeds what its length field can say
-abbrev pub Fitting : Reading → Type 0
-Fitting [] = Unit {0}
-Fitting (o ∷ r) = (length (write-option o .payload) ≤ 65531) × Fitting r
-
 -- 15 at the first option whose written payload is too long: only one of type 7 can be
 abbrev pub fitting : Walked → Reading → Read (Unit {0})
 fitting done r = Ok tt
@@ -60,3 +56,18 @@ abbrev pub write-out : Meaning → (free : ℕ) → Bytes → Read Bytes
 write-out m free bs =
     read-filter m bs >>= λ r. fitting (walk 0 bs) r >>= λ _.
     cond (ltb free (length (written r))) (Err (fault 16 0 1)) (Ok (written r))
+
+-- what the output holds afterwards: the written form and then the rest of the old output; all of the old on a refusal
+abbrev pub written-over : (output : Bytes) → Read Bytes → Bytes
+written-over output (Ok x) = x ++ drop (length x) output
+written-over output (Err e) = output
+
+abbrev pub output-after : Meaning → (output : Bytes) → Bytes → Bytes
+output-after m output bs = written-over output (write-out m (length output) bs)
+
+-- the output keeps its length, holds just what was written at its front and keeps what is beyond, and after a refusal it is as it was
+pub record Output-keeps-the-rest : Type 0 where
+  pub size : (m : Meaning) (output bs : Bytes) → length (output-after m output bs) ≡ length output
+  pub front : (m : Meaning) (output bs x : Bytes) → write-out m (length output) bs ≡ Ok x → take (length x) (output-after m output bs) ≡ x
+  pub beyond : (m : Meaning) (output bs x : Bytes) (i : ℕ) → write-out m (length output) bs ≡ Ok x → length x ≤ i → getD (output-after m output bs) i 0 ≡ getD output i 0
+  pub untouched : (m : Meaning) (output bs : Bytes) (e : FaultNumbers) → write-out m (length output) bs ≡ Err e → output-after m output bs ≡ output
