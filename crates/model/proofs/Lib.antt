@@ -1,5 +1,6 @@
 pub mod Numbers
 pub mod Walk
+pub mod Heads
 pub mod Each
 pub mod ActionAttributes
 pub mod Actions

@@ -3,10 +3,16 @@ ghost use Rattle.model.specs.Examples.{Examples-hold};
 ghost use Rattle.model.specs.Shipped.{Books-lawful};
 ghost use Rattle.model.specs.Records.{Records-lawful};
 ghost use Rattle.model.specs.Text.{Test-is-grammar};
-ghost use Rattle.model.specs.Laws.{Walk-of-encode, Round-trip, Canonical, Page-is-its-card, Every-filter-is-a-page, Order-is-free};
+ghost use Rattle.model.specs.Laws.{Walk-goes-by-heads, Walk-of-encode, Round-trip, Canonical, Page-is-its-card, Every-filter-is-a-page, Order-is-free};
 
 pub fn examples_hold() -> u8
     ensures { λ _. ⌜ Examples-hold ⌝ }
+{
+    0
+}
+
+pub fn walk_goes_by_heads() -> u8
+    ensures { λ _. ⌜ Walk-goes-by-heads ⌝ }
 {
     0
 }

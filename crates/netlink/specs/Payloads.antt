@@ -1,0 +1,26 @@
+-- What a payload of an exact length reads as. Assumes nothing.
+use mathlib.Core.Bool.{cond}
+use Prim.Native.Nat.{ℕ}
+use lib.Dec.{eqb}
+use lib.ListN.{length}
+use Rattle.std.specs.declared.result.Result.{Result}
+use Rattle.std.specs.declared.result.Result.the-variants.{Ok, Err}
+use denote.Ref.{now}
+use Rattle.model.specs.Numbers.{Bytes}
+use Rattle.model.specs.Faults.{cause-number}
+use Rattle.netlink.specs.declared.error.DecodeError.{DecodeError}
+use Rattle.netlink.specs.declared.ip.Ipv4Addr.{Ipv4Addr}
+use Rattle.netlink.specs.declared.ip.Ipv6Addr.{Ipv6Addr}
+use Rattle.netlink.specs.Errors.{Lack, lack}
+
+-- exactly n bytes, read by f; else cause 12, with n as the length wanted
+abbrev pub exactly : {A : Type 0} → (n : ℕ) → (Bytes → A) → Bytes → Result A Lack
+exactly n f x = cond (eqb (length x) n) (Ok (f x)) (Err (lack 12 n))
+
+-- an IPv4 address is its bytes, and an IPv6 address that part of the payload
+abbrev pub address : Bytes → Ipv4Addr
+address x = record { octets = x }
+
+abbrev pub address-part : Result Ipv6Addr DecodeError → Result Bytes Lack
+address-part (Ok a) = Ok (now (a .octets))
+address-part (Err e) = Err (lack (cause-number (e .cause)) (e .need))

@@ -1,0 +1,6 @@
+// Netlink attributes: walking them, reading their payloads, writing them.
+pub mod buffer;
+pub mod error;
+pub mod ip;
+pub mod parsers;
+pub mod walker;
