@@ -8,6 +8,7 @@ use lib.ListN.{length, take, drop, getD}
 use lib.Dec.{ltb, eqb}
 use borrow.Author.Tests.{eqb-true, ne-eqb}
 use Rattle.std.proofs.shelf.Lists.{map-id}
+use Rattle.std.proofs.shelf.Elements.{all-weaker}
 use Rattle.std.specs.declared.result.Result.{Result}
 use Rattle.std.specs.declared.result.Result.the-variants.{Ok, Err}
 use Rattle.std.specs.shelf.Lists.{All}
@@ -20,7 +21,7 @@ use Rattle.model.specs.Book.{Meaning, BookLaws, Answer, accept, refuse}
 use Rattle.model.specs.Reading.{each, u32, text, as-read, ActionAttribute, kind, options, index, stats, cookie, in-hw-count, other, AttributeForm, attribute-forms, read-as, read-attribute, kinds}
 use Rattle.model.specs.Writing.{write-attribute}
 use Rattle.model.proofs.Numbers.{number-bytes, u32-lt}
-use Rattle.model.proofs.Each.{err-not-ok, ok-same, chain, met, walk-sound, each-all, each-written, octets-append}
+use Rattle.model.proofs.Each.{err-not-ok, ok-same, chain, met, walk-sound, each-all, each-written, octets-append, all-mapped}
 
 pub stripped-zero : (s : Bytes) → stripped (s ++ 0 ∷ []) ≡ s
 stripped-zero [] = refl
@@ -68,14 +69,6 @@ pub record Steady (m : Meaning) (k : Bytes) (a : ActionAttribute) : Type 0 where
   pub known : Known a
   pub heard : (p : ℕ) (r : Walked) (l : List Bytes) → kinds r ≡ Ok l → kinds (item p (write-attribute a .word) (write-attribute a .payload) r) ≡ Ok (own-kind a ++ l)
 
-all-map : {A B : Type 0} (P : A → Type 0) (Q : B → Type 0) (f : A → B) → ((a : A) → P a → Q (f a)) → (l : List A) → All P l → All Q (map f l)
-all-map P Q f h [] ok = tt
-all-map P Q f h (a ∷ l) ok = (h a (ok .0), all-map P Q f h l (ok .1))
-
-pub all-weaker : {A : Type 0} (P Q : A → Type 0) → ((a : A) → P a → Q a) → (l : List A) → All P l → All Q l
-all-weaker P Q h [] ok = tt
-all-weaker P Q h (a ∷ l) ok = (h a (ok .0), all-weaker P Q h l (ok .1))
-
 was-accepted : (p : ℕ) (o : Answer) (a : Attribute) → as-read p o ≡ Ok a → o ≡ accept (a .word) (a .payload)
 was-accepted p (accept w x) a q = ap (λ (b : Attribute). accept (b .word) (b .payload)) (ok-same q)
 was-accepted p (refuse n d) a q = err-not-ok _ a q
@@ -103,7 +96,7 @@ module _ (m : Meaning) (laws : BookLaws m) (k : Bytes) where
       let same : map (λ (a : Attribute). a) l ≡ l = map-id l in
       ap (λ (l′ : List Attribute). each 4 (λ q v y. as-read q (m k v y)) (walk p (encode-all l′))) (sym same)
       ∙ each-written 4 (λ q v y. as-read q (m k v y)) (λ a. a) l (all-weaker (Settled m k) (λ a. (p : ℕ) → as-read p (m k (a .word) (a .payload)) ≡ Ok a) as-read-again l s)
-      (all-map (Settled m k) Writable (λ a. a) (λ a t. t .writable) l s) p
+      (all-mapped (Settled m k) Writable (λ a. a) (λ a t. t .writable) l s) p
 
   kind-steady : (s : Bytes) → Octets s → is-text s ≡ true → Steady m k (kind s)
   kind-steady s o h = record {

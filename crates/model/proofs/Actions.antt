@@ -7,6 +7,7 @@ use native.Mathlib.Omega.{arith}
 use lib.ListN.{length, take, drop, getD, length-append}
 use lib.Dec.{ltb, eqb}
 use borrow.Author.Tests.{eqb-true, eqb-false, ne-eqb, eq-eqb}
+use Rattle.std.proofs.shelf.Elements.{all-weaker}
 use Rattle.std.specs.declared.result.Result.{Result}
 use Rattle.std.specs.declared.result.Result.the-variants.{Ok, Err}
 use Rattle.std.specs.shelf.Lists.{All}
@@ -18,8 +19,8 @@ use Rattle.model.specs.Book.{Meaning, BookLaws}
 use Rattle.model.specs.Reading.{each, u32, text, ActionAttribute, kind, options, index, in-hw-count, AttributeForm, attribute-forms, read-as, read-attribute, kinds, the-kind, Action, read-action, as-read}
 use Rattle.model.specs.Writing.{write-attribute, write-action}
 use Rattle.model.proofs.Walk.{walk-of-encode, length-encode}
-use Rattle.model.proofs.Each.{err-not-ok, ok-same, chain, met, Sound, walk-sound, each-all, each-found}
-use Rattle.model.proofs.ActionAttributes.{own-kind, Steady, steady, all-weaker}
+use Rattle.model.proofs.Each.{err-not-ok, ok-same, chain, met, Sound, walk-sound, each-all, each-found, all-mapped}
+use Rattle.model.proofs.ActionAttributes.{own-kind, Steady, steady}
 
 abbrev pub own-kinds : List ActionAttribute → List Bytes
 own-kinds [] = []
@@ -107,10 +108,6 @@ pub all-both : {A : Type 0} (P Q : A → Type 0) (l : List A) → All P l → Al
 all-both P Q [] f g = tt
 all-both P Q (a ∷ l) f g = ((f .0, g .0), all-both P Q l (f .1) (g .1))
 
-pub all-map : {A B : Type 0} (P : A → Type 0) (Q : B → Type 0) (f : A → B) → ((a : A) → P a → Q (f a)) → (l : List A) → All P l → All Q (map f l)
-all-map P Q f h [] ok = tt
-all-map P Q f h (a ∷ l) ok = (h a (ok .0), all-map P Q f h l (ok .1))
-
 module _ (m : Meaning) (laws : BookLaws m) where
   pub action-again : (a : Action) → SteadyAction m laws a → (p : ℕ) → length (write-action a .payload) ≤ 65531 → read-action m p (write-action a .word) (write-action a .payload) ≡ Ok a
   action-again a s p short =
@@ -119,7 +116,7 @@ module _ (m : Meaning) (laws : BookLaws m) where
       let small : a .tab < 16384 = s .tab14 in
       let tab : type-of (a .tab) ≡ a .tab = omega arith in
       let both = all-both (Steady m k) (λ b. length (write-attribute b .payload) ≤ 65531) l (s .all-steady) (all-short write-attribute 65531 l short) in
-      let ok = all-map (λ b. Steady m k b × (length (write-attribute b .payload) ≤ 65531)) Writable write-attribute (λ b h. record { word16 = h .0 .word16; short = h .1 }) l both in
+      let ok = all-mapped (λ b. Steady m k b × (length (write-attribute b .payload) ≤ 65531)) Writable write-attribute (λ b h. record { word16 = h .0 .word16; short = h .1 }) l both in
       let walked : walk (p + 4) (encode-all (map write-attribute l)) ≡ found (p + 4) (map write-attribute l) = walk-of-encode (p + 4) (map write-attribute l) ok in
       let heard : kinds (found (p + 4) (map write-attribute l)) ≡ Ok (k ∷ []) = kinds-found m laws k l (s .all-steady) (p + 4) ∙ ap {B = Read (List Bytes)} Ok (s .one-kind) in
       let reads : each 3 (read-attribute m k) (found (p + 4) (map write-attribute l)) ≡ Ok l =

@@ -19,8 +19,7 @@ use Rattle.model.specs.Counts.{options-in, actions-of, sum-of}
 use Rattle.model.specs.Card.{ActionItem, CardAction, PageItem, card-action, action-item-attribute, action-items-bytes, card-action-attribute, card-actions-bytes, page-action-item-attribute}
 use Rattle.model.specs.CardReading.{all, action-item-kinds, read-action-item, read-card-action, read-page-item, card-actions-in, options-of}
 use Rattle.model.proofs.Walk.{walk-of-encode}
-use Rattle.model.proofs.Each.{err-not-ok, ok-same, chain}
-use Rattle.model.proofs.Actions.{all-map}
+use Rattle.model.proofs.Each.{err-not-ok, ok-same, chain, all-mapped}
 use Rattle.model.proofs.Placeless.{Also, also-then, also-same, text-also, the-kind-also, as-read-also, attribute-placeless, action-placeless, option-placeless}
 
 -- ── one by one, and from the bytes ──
@@ -193,7 +192,7 @@ module _ (m : Meaning) where
 
   pub card-action-good : (u h : ℕ) (l : List ActionItem) (a : Action) → All GoodActionItem l → Writable (attribute u (action-items-bytes l)) → read-action m h 0 (action-items-bytes l) ≡ Ok a → GoodCardAction (card-action u l)
   card-action-good u h l a good ok q =
-      let walked : walk (h + 4) (action-items-bytes l) ≡ found (h + 4) (map action-item-attribute l) = walk-of-encode (h + 4) (map action-item-attribute l) (all-map GoodActionItem Writable action-item-attribute action-item-writable l good) in
+      let walked : walk (h + 4) (action-items-bytes l) ≡ found (h + 4) (map action-item-attribute l) = walk-of-encode (h + 4) (map action-item-attribute l) (all-mapped GoodActionItem Writable action-item-attribute action-item-writable l good) in
       let s = walk (h + 4) (action-items-bytes l) in
       let f = chain (kinds s) (λ ts. the-kind h ts >>= λ k. each 3 (read-attribute m k) s >>= λ as′. Ok (record { tab = 0; kind-text = k; attributes = as′ })) q in
       let g = chain (the-kind h (f .0)) (λ k. each 3 (read-attribute m k) s >>= λ as′. Ok (record { tab = 0; kind-text = k; attributes = as′ })) (f .1 .1) in
@@ -248,7 +247,7 @@ module _ (m : Meaning) where
   pub nest-good : (l : List CardAction) → All GoodCardAction l → Writable (attribute 7 (card-actions-bytes l)) → GoodPageItem (PageItem.nest 7 l)
   nest-good l h ok =
       let r = actions-from l h in
-      let fine = all-map GoodCardAction Writable card-action-attribute (λ d g. g .writable) l h in
+      let fine = all-mapped GoodCardAction Writable card-action-attribute (λ d g. g .writable) l h in
       record {
         writable = ok;
         made = actions (r .0);
@@ -303,6 +302,6 @@ module _ (m : Meaning) where
   pub card-action-good-from : (u : ℕ) (l : List ActionItem) (ts : List Bytes) (k : Bytes) (as′ : List ActionAttribute) → All GoodActionItem l → Writable (attribute u (action-items-bytes l)) →
       action-item-kinds l ≡ Ok ts → the-kind 0 ts ≡ Ok k → all (read-action-item m k) l ≡ Ok as′ → GoodCardAction m (card-action u l)
   card-action-good-from u l ts k as′ good ok e f g =
-      let walked : walk 4 (action-items-bytes l) ≡ found 4 (map action-item-attribute l) = walk-of-encode 4 (map action-item-attribute l) (all-map GoodActionItem Writable action-item-attribute action-item-writable l good) in
+      let walked : walk 4 (action-items-bytes l) ≡ found 4 (map action-item-attribute l) = walk-of-encode 4 (map action-item-attribute l) (all-mapped GoodActionItem Writable action-item-attribute action-item-writable l good) in
       card-action-good m u 0 l (record { tab = 0; kind-text = k; attributes = as′ }) good ok
       (assembled m 0 0 (action-items-bytes l) ts k as′ (ap kinds walked ∙ kinds-back l good 4 ts e) f (ap (each 3 (read-attribute m k)) walked ∙ items-back k l good 4 as′ g))

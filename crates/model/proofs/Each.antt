@@ -10,6 +10,7 @@ use borrow.Author.Tests.{ltb-true, ltb-false}
 use Rattle.std.specs.declared.result.Result.{Result}
 use Rattle.std.specs.declared.result.Result.the-variants.{Ok, Err}
 use Rattle.std.specs.shelf.Lists.{All}
+use Rattle.std.proofs.shelf.Elements.{all-take, all-drop, all-append, all-map, all-weaker}
 use Rattle.model.specs.Numbers.{Bytes, Octets, number, bytes-of}
 use Rattle.model.specs.Faults.{Read, _>>=_, FaultNumbers}
 use Rattle.model.specs.Attributes.{rounded, Attribute, Writable, encode-all}
@@ -38,20 +39,19 @@ pub met : {A : Type 0} (t : Bool) (e : FaultNumbers) (r : Read A) {a : A} → co
 met true e r q = (refl, q)
 met false e r {a} q = err-not-ok e a q
 
+-- ── what holds of each element ──
+pub all-mapped : {A B : Type 0} (P : A → Type 0) (Q : B → Type 0) (f : A → B) → ((a : A) → P a → Q (f a)) → (l : List A) → All P l → All Q (map f l)
+all-mapped P Q f h l ok = all-map Q f l (all-weaker P (λ a. Q (f a)) h l ok)
+
 -- ── bytes ──
 pub octets-take : (n : ℕ) (bs : Bytes) → Octets bs → Octets (take n bs)
-octets-take zero bs o = tt
-octets-take (suc n) [] o = tt
-octets-take (suc n) (b ∷ bs) o = (o .0, octets-take n bs (o .1))
+octets-take = all-take (λ b. b < 256)
 
 pub octets-drop : (n : ℕ) (bs : Bytes) → Octets bs → Octets (drop n bs)
-octets-drop zero bs o = o
-octets-drop (suc n) [] o = tt
-octets-drop (suc n) (b ∷ bs) o = octets-drop n bs (o .1)
+octets-drop = all-drop (λ b. b < 256)
 
 pub octets-append : (xs ys : Bytes) → Octets xs → Octets ys → Octets (xs ++ ys)
-octets-append [] ys o q = q
-octets-append (x ∷ xs) ys o q = (o .0, octets-append xs ys (o .1) q)
+octets-append = all-append (λ b. b < 256)
 
 pub octets-bytes : (n v : ℕ) → Octets (bytes-of n v)
 octets-bytes zero v = tt

@@ -16,3 +16,8 @@ pub mod Books
 pub mod RecordLaws
 pub mod Texts
 pub mod Swaps
+pub mod Utf8Texts
+pub mod BookCalls
+pub mod Outputs
+pub mod Names
+pub mod CauseNumbers

@@ -9,7 +9,7 @@ use lib.Dec.{ltb, eqb}
 use borrow.Author.Tests.{le-ltb, eq-eqb, ne-eqb}
 use Rattle.std.proofs.shelf.Lists.{append-nil, take-at, map-id}
 use Rattle.std.specs.declared.result.Result.the-variants.{Ok, Err}
-use Rattle.std.specs.shelf.Lists.{All}
+use Rattle.std.specs.shelf.Lists.{All, joined}
 use Rattle.model.specs.Numbers.{Bytes, Octets, part}
 use Rattle.model.specs.Faults.{Read, _>>=_}
 use Rattle.model.specs.Attributes.{rounded, type-of, Attribute, attribute, Writable, head, encode, encode-all}
@@ -37,13 +37,9 @@ use Rattle.model.proofs.Steps.{heads-of, page-of, state-of, GoodCard, Holds, s
 abbrev put-of : Attribute → Turn
 put-of a = with-own-memory (put (a .word) (a .payload))
 
-abbrev concat : {A B : Type 0} → (A → List B) → List A → List B
-concat f [] = []
-concat f (a ∷ l) = f a ++ concat f l
-
 abbrev attribute-turns : ActionAttribute → List Turn
 attribute-turns (kind t) = put-of (write-attribute (kind t)) ∷ []
-attribute-turns (options l) = with-own-memory (open-nest 2) ∷ (concat (λ a. put-of a ∷ []) l ++ (with-own-memory close ∷ []))
+attribute-turns (options l) = with-own-memory (open-nest 2) ∷ (joined (λ a. put-of a ∷ []) l ++ (with-own-memory close ∷ []))
 attribute-turns (index n) = put-of (write-attribute (index n)) ∷ []
 attribute-turns (stats x) = put-of (write-attribute (stats x)) ∷ []
 attribute-turns (cookie x) = put-of (write-attribute (cookie x)) ∷ []
@@ -60,7 +56,7 @@ attribute-action-item (in-hw-count n) = ActionItem.leaf (write-attribute (in-hw-
 attribute-action-item (other w x) = ActionItem.leaf (write-attribute (other w x))
 
 abbrev action-turns : Action → List Turn
-action-turns a = with-own-memory (open-nest (a .tab)) ∷ (concat attribute-turns (a .attributes) ++ (with-own-memory close ∷ []))
+action-turns a = with-own-memory (open-nest (a .tab)) ∷ (joined attribute-turns (a .attributes) ++ (with-own-memory close ∷ []))
 
 abbrev action-card-action : Action → CardAction
 action-card-action a = card-action (a .tab) (map attribute-action-item (a .attributes))
@@ -72,7 +68,7 @@ option-turns (link n) = put-of (write-option (link n)) ∷ []
 option-turns (divisor n) = put-of (write-option (divisor n)) ∷ []
 option-turns (selector s) = put-of (write-option (selector s)) ∷ []
 option-turns (police x) = put-of (write-option (police x)) ∷ []
-option-turns (actions l) = with-own-memory (open-nest 7) ∷ (concat action-turns l ++ (with-own-memory close ∷ []))
+option-turns (actions l) = with-own-memory (open-nest 7) ∷ (joined action-turns l ++ (with-own-memory close ∷ []))
 option-turns (indev x) = put-of (write-option (indev x)) ∷ []
 option-turns (pcnt x) = put-of (write-option (pcnt x)) ∷ []
 option-turns (mark x) = put-of (write-option (mark x)) ∷ []
@@ -237,7 +233,7 @@ module _ (m : Meaning) (n : ℕ) (small : n ≤ 65531) where
   -- one list, element by element
   reach-list : {A X : Type 0} (K : List X → Card) (turns : A → List Turn) (w : A → Attribute) (it : A → X) (P : A → Type 0) →
       ((xs : List X) (a : A) → P a → Reach (K xs) (turns a) (length (encode (w a))) (K (xs ++ it a ∷ []))) →
-      (l : List A) → All P l → (xs : List X) → Reach (K xs) (concat turns l) (length (encode-all (map w l))) (K (xs ++ map it l))
+      (l : List A) → All P l → (xs : List X) → Reach (K xs) (joined turns l) (length (encode-all (map w l))) (K (xs ++ map it l))
   reach-list K turns w it P h [] ok xs = as-need refl (ap K (sym (append-nil xs))) (reach-none (K xs))
   reach-list K turns w it P h (a ∷ l) ok xs =
       as-need (sym (length-append (encode (w a)) (encode-all (map w l)))) (ap K (append-assoc xs (it a ∷ []) (map it l)))
@@ -279,7 +275,7 @@ module _ (m : Meaning) (laws : BookLaws m) (n : ℕ) (small : n ≤ 65531) where
         let K : List Attribute → Card = λ xs. level3 l v ds u is 0x8002 xs in
         let puts = reach-list m n small K (λ a. put-of a ∷ []) (λ (a : Attribute). a) (λ (a : Attribute). a) (λ o. Writable o × Octets (o .payload))
         (λ xs a h. as-need m n small (sym (put-length (a .word) (a .payload))) refl (put3 m n small l v ds u is 0x8002 xs (a .word) (a .payload) (h .0 .word16) (h .1))) os ok [] in
-        let puts′ : Reach m n small (level3 l v ds u is 0x8002 []) (concat (λ a. put-of a ∷ []) os) (length (encode-all os)) (level3 l v ds u is 0x8002 os) =
+        let puts′ : Reach m n small (level3 l v ds u is 0x8002 []) (joined (λ a. put-of a ∷ []) os) (length (encode-all os)) (level3 l v ds u is 0x8002 os) =
         as-need m n small (ap (λ (z : List Attribute). length (encode-all z)) (map-id os)) (ap K (map-id os)) puts in
         let fours : rounded (length (encode-all os)) ≡ length (encode-all os) = rounded-all os in
         let size : length (encode (attribute 0x8002 (encode-all os))) ≡ 4 + rounded (length (encode-all os)) = put-length 0x8002 (encode-all os) in
@@ -357,6 +353,6 @@ every-filter-is-a-page m laws bs o r q short memory om len =
     let way = reach-list m n small level0 option-turns write-option option-page-item (λ o. SteadyOption m laws o × (length (write-option o .payload) ≤ 65531)) (λ xs o h. option-reach m laws n small xs o (h .0) (h .1)) r both [] in
     let h = way .there (start memory) (memory, (refl, refl, tt)) (omega arith) in
     let k = level0 (map option-page-item r) in
-    let bytes : page-bytes (run m (start memory) (concat option-turns r)) ≡ written r =
+    let bytes : page-bytes (run m (start memory) (joined option-turns r)) ≡ written r =
     ap page-bytes (h .1 .0) ∙ take-at (card-bytes k) (h .0) (length (card-bytes k)) refl ∙ page-items-same r in
-    (concat option-turns r, (way .fair, bytes, ap (λ (z : State). level (z .page)) (h .1 .0)))
+    (joined option-turns r, (way .fair, bytes, ap (λ (z : State). level (z .page)) (h .1 .0)))

@@ -1,11 +1,12 @@
 -- The six records keep their law. Assumes nothing.
-use mathlib.Core.Path.{_≡_, refl, sym, ap, ap₂, subst, _∙_}
-use mathlib.Core.List.{List, [], _∷_, _++_, reverse}
-use Prim.Native.Nat.{ℕ, zero, suc, _+_, _-_, _*_, _^_, _≤_, _<_, min}
+use mathlib.Core.Path.{_≡_, sym, ap, ap₂, _∙_}
+use mathlib.Core.List.{[], _++_, reverse}
+use Prim.Native.Nat.{ℕ, _+_, _^_, _≤_}
 use native.Mathlib.Omega.{arith}
 use lib.ListN.{length, take, drop, length-take, length-drop, length-reverse}
+use lib.Seq.{take-add}
 use lib.Dec.{ltb}
-use Rattle.std.proofs.shelf.Lists.{reverse-reverse, drop-drop, append-assoc}
+use Rattle.std.proofs.shelf.Lists.{reverse-reverse, drop-drop}
 use Rattle.model.specs.Numbers.{Bytes, Octets, number, bytes-of, part, le, be, signed, le-bytes, be-bytes, signed-bytes}
 use Rattle.model.specs.Records.{key, generic, tunnel-key, mirror, times, nat, Records-lawful}
 use Rattle.model.proofs.Numbers.{bytes-number}
@@ -33,16 +34,7 @@ module _ (bs : Bytes) (o : Octets bs) where
 
   -- two parts that follow one another
   joined : (i a b : ℕ) → part i a bs ++ part (i + a) b bs ≡ part i (a + b) bs
-  joined i a b = ap (λ (r : Bytes). part i a bs ++ take b r) (sym (drop-drop a i bs)) ∙ split a b (drop i bs)
-    where
-      split : (a b : ℕ) (l : Bytes) → take a l ++ take b (drop a l) ≡ take (a + b) l
-      split zero b l = let e : b ≡ 0 + b = omega arith in ap (λ (k : ℕ). take k l) e
-      split (suc a) b [] = nil b ∙ sym (nil (suc a + b))
-        where
-          nil : (k : ℕ) → take {A = ℕ} k [] ≡ []
-          nil zero = refl
-          nil (suc k) = refl
-      split (suc a) b (x ∷ l) = let e : suc (a + b) ≡ suc a + b = omega arith in ap {B = Bytes} (λ r. x ∷ r) (split a b l) ∙ ap (λ (k : ℕ). take k (x ∷ l)) e
+  joined i a b = ap (λ (r : Bytes). part i a bs ++ take b r) (sym (drop-drop a i bs)) ∙ sym (take-add a b (drop i bs))
 
   then : (i a b : ℕ) {x y : Bytes} → x ≡ part i a bs → y ≡ part (i + a) b bs → x ++ y ≡ part i (a + b) bs
   then i a b e f = ap₂ (λ (x y : Bytes). x ++ y) e f ∙ joined i a b

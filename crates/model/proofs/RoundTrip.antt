@@ -8,6 +8,7 @@ use lib.ListN.{length, getD}
 use lib.Dec.{ltb, eqb}
 use borrow.Author.Tests.{le-ltb, ltb-false, eqb-true}
 use Rattle.std.specs.declared.result.Result.the-variants.{Ok, Err}
+use Rattle.std.proofs.shelf.Elements.{all-weaker}
 use Rattle.std.specs.shelf.Lists.{All}
 use Rattle.model.specs.Numbers.{Bytes, Octets, number, bytes-of}
 use Rattle.model.specs.Faults.{Read, _>>=_, fault, needing}
@@ -19,9 +20,8 @@ use Rattle.model.specs.Reading.{each, u32, Action, read-action, read-selector,
 use Rattle.model.specs.Writing.{write-action, write-option, written, fitting, write-out}
 use Rattle.model.specs.Laws.{Round-trip, Canonical}
 use Rattle.model.proofs.Numbers.{number-bytes, u32-lt}
-use Rattle.model.proofs.Each.{err-not-ok, ok-same, chain, passed, met, walk-sound, each-all, each-written}
-use Rattle.model.proofs.ActionAttributes.{all-weaker}
-use Rattle.model.proofs.Actions.{SteadyAction, action-steady, action-again, all-short, all-both, all-map}
+use Rattle.model.proofs.Each.{err-not-ok, ok-same, chain, passed, met, walk-sound, each-all, each-written, all-mapped}
+use Rattle.model.proofs.Actions.{SteadyAction, action-steady, action-again, all-short, all-both}
 use Rattle.model.proofs.Selectors.{KeptSelector, read-selector-again, selector-read}
 
 u32-is : (p layer : ℕ) (x : Bytes) (n : ℕ) → Octets x → u32 p layer x ≡ Ok n → n < 4294967296
@@ -69,7 +69,7 @@ module _ (m : Meaning) (laws : BookLaws m) where
     word16 = omega arith;
     again = λ p short.
         let both = all-both (SteadyAction m laws) (λ a. length (write-action a .payload) ≤ 65531) l s (all-short write-action 65531 l short) in
-        let ok = all-map (λ a. SteadyAction m laws a × (length (write-action a .payload) ≤ 65531)) Writable write-action
+        let ok = all-mapped (λ a. SteadyAction m laws a × (length (write-action a .payload) ≤ 65531)) Writable write-action
         (λ a h. let small : a .tab < 16384 = h .0 .tab14 in record { word16 = omega arith; short = h .1 }) l both in
         let reads = each-written 2 (read-action m) write-action l
         (all-weaker (λ a. SteadyAction m laws a × (length (write-action a .payload) ≤ 65531)) (λ a. (p : ℕ) → read-action m p (write-action a .word) (write-action a .payload) ≡ Ok a) (λ a h q. action-again m laws a (h .0) q (h .1)) l both) ok (p + 4) in
@@ -151,7 +151,7 @@ module _ (m : Meaning) (laws : BookLaws m) where
       let both = all-both (SteadyOption m laws) (λ o. length (write-option o .payload) ≤ 65531) r s short in
       each-written 1 (read-option m) write-option r
       (all-weaker (λ o. SteadyOption m laws o × (length (write-option o .payload) ≤ 65531)) (λ o. (p : ℕ) → read-option m p (write-option o .word) (write-option o .payload) ≡ Ok o) (λ o h p. h .0 .again p (h .1)) r both)
-      (all-map (λ o. SteadyOption m laws o × (length (write-option o .payload) ≤ 65531)) Writable write-option (λ o h. record { word16 = h .0 .word16; short = h .1 }) r both) 0
+      (all-mapped (λ o. SteadyOption m laws o × (length (write-option o .payload) ≤ 65531)) Writable write-option (λ o h. record { word16 = h .0 .word16; short = h .1 }) r both) 0
 
   pub read-inside : (bs : Bytes) (r : Reading) → read-filter m bs ≡ Ok r → read-options m bs ≡ Ok r
   read-inside bs r q = passed (ltb 65531 (length bs)) (fault 1 0 1) (read-options m bs) q .1

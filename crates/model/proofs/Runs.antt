@@ -24,8 +24,7 @@ use Rattle.model.specs.Card.{CardAction, PageItem, Card, level0, level1, level
 use Rattle.model.specs.CardReading.{read-page-item, page-items-reading, card-actions-in, options-of, page-items-counts}
 use Rattle.model.specs.Laws.{PageAgrees, Page-is-its-card}
 use Rattle.model.proofs.Walk.{walk-of-encode, step-over, length-encode}
-use Rattle.model.proofs.Actions.{all-map}
-use Rattle.model.proofs.ActionAttributes.{all-weaker}
+use Rattle.model.proofs.Each.{all-mapped}
 use Rattle.model.proofs.Cards.{GoodPageItem, Both, Reads, found-reads, all-reads, lengths}
 use Rattle.model.proofs.Steps.{heads-of, page-of, state-of, GoodCard, Holds, step}
 
@@ -72,7 +71,7 @@ module _ (m : Meaning) where
       (h .0 .made ∷ r .0, ((h .0 .reads, r .1 .0), ap₂ _+_ (h .0 .count-actions) (r .1 .1), ap₂ _+_ (h .0 .count-options) (r .1 .2)))
 
   all-writable : (l : List PageItem) → All (GoodPageItem m) l → All Writable (map page-action-item-attribute l)
-  all-writable l h = all-map (GoodPageItem m) Writable page-action-item-attribute (λ e g. g .writable) l h
+  all-writable l h = all-mapped (GoodPageItem m) Writable page-action-item-attribute (λ e g. g .writable) l h
 
   pub page-reads : (l : List PageItem) → All (GoodPageItem m) l → length (page-items-bytes l) ≤ 65531 →
       (r : Reading) × ((read-filter m (page-items-bytes l) ≡ Ok r) × (page-items-reading m l ≡ Ok r) × (counts r ≡ page-items-counts l))

@@ -3,6 +3,7 @@ use mathlib.Core.Path.{_≡_, refl, sym, ap, subst, _∙_}
 use mathlib.Core.List.{List, [], _∷_, _++_, map, reverse, reverseAux}
 use mathlib.Core.Bool.{Bool, true, false, cond}
 use Prim.Native.Nat.{ℕ, zero, suc, _+_, _-_, _*_, _/_, _%_, _^_, _≤_, _<_}
+use native.Mathlib.Nat.{pow-le-pow-right}
 use native.Mathlib.Omega.{arith}
 use lib.ListN.{length, take, drop, length-append, length-take, length-reverse}
 use lib.Dec.{ltb}
@@ -35,19 +36,13 @@ pub octets-reverseAux : (bs cs : Bytes) → Octets bs → Octets cs → Octets (
 octets-reverseAux [] cs o q = q
 octets-reverseAux (b ∷ bs) cs o q = octets-reverseAux bs (b ∷ cs) (o .1) (o .0, q)
 
-pow-le : (a b : ℕ) → a ≤ b → 256 ^ a ≤ 256 ^ b
-pow-le zero zero h = omega arith
-pow-le zero (suc b) h = let i : 256 ^ zero ≤ 256 ^ b = pow-le zero b (omega arith) in omega arith
-pow-le (suc a) zero h = absurd (omega arith)
-pow-le (suc a) (suc b) h = let i : 256 ^ a ≤ 256 ^ b = pow-le a b (omega arith) in omega arith
-
 pub be-lt : (i n : ℕ) (bs : Bytes) → Octets bs → be i n bs < 256 ^ n
 be-lt i n bs o =
     let x = part i n bs in
     let ox : Octets (reverse x) = octets-reverseAux x [] (octets-take n (drop i bs) (octets-drop i bs o)) tt in
     let h : number (reverse x) < 256 ^ length (reverse x) = number-lt (reverse x) ox in
     let short : length (reverse x) ≤ n = simp (length-reverse, length-take) (omega arith) in
-    let up : 256 ^ length (reverse x) ≤ 256 ^ n = pow-le (length (reverse x)) n short in
+    let up : 256 ^ length (reverse x) ≤ 256 ^ n = pow-le-pow-right (omega arith) short in
     omega arith
 
 -- two's complement and back

@@ -7,7 +7,9 @@ use native.Mathlib.Omega.{arith}
 use lib.ListN.{length, take, drop, length-append, length-drop}
 use lib.Dec.{ltb, eqb}
 use borrow.Author.Tests.{ltb-true, ltb-false, eqb-true, eqb-false}
+use Rattle.std.proofs.shelf.Elements.{all-push}
 use Rattle.std.proofs.shelf.Lists.{append-nil, take-at, drop-at, drop-drop}
+use Rattle.std.proofs.shelf.Tests.{not-true}
 use Rattle.std.specs.declared.result.Result.the-variants.{Ok, Err}
 use Rattle.std.specs.shelf.Lists.{All}
 use Rattle.model.specs.Numbers.{Bytes, le-bytes, part}
@@ -102,10 +104,6 @@ module _ (m : Meaning) where
   abbrev pub Holds : ℕ → Card → State → Type 0
   Holds n k s = (tail : Bytes) × ((s ≡ state-of n k tail) × (length (card-bytes k ++ tail) ≡ n) × GoodCard k)
 
-all-push : {A : Type 0} (P : A → Type 0) (l : List A) (a : A) → All P l → P a → All P (l ++ a ∷ [])
-all-push P [] a h q = (q, tt)
-all-push P (b ∷ l) a h q = (h .0, all-push P l a (h .1) q)
-
 checked : {A : Type 0} (b : Bool) (e : FaultNumbers) (f : Unit {0} → Read A) {z : A} → (check b e >>= f) ≡ Ok z → (b ≡ true) × (f tt ≡ Ok z)
 checked true e f q = (refl, q)
 checked false e f {z} q = err-not-ok e z q
@@ -113,10 +111,6 @@ checked false e f {z} q = err-not-ok e z q
 checked-last : (b : Bool) (e : FaultNumbers) → check b e ≡ Ok tt → b ≡ true
 checked-last true e q = refl
 checked-last false e q = err-not-ok e tt q
-
-not-true : (b : Bool) → not b ≡ true → b ≡ false
-not-true true e = sym e
-not-true false e = refl
 
 only-ok : {A : Type 0} (r : Read A) → only-fault r ≡ Ok tt → (a : A) × (r ≡ Ok a)
 only-ok (Ok a) q = (a, refl)

@@ -1,11 +1,12 @@
 -- The test for UTF-8 is the grammar of RFC 3629. Assumes nothing.
-use mathlib.Core.Path.{_≡_, refl, sym, ap, subst, _∙_}
-use mathlib.Core.List.{List, [], _∷_, _++_}
-use mathlib.Core.Bool.{Bool, true, false, cond, _&&_}
-use Prim.Native.Nat.{ℕ, zero, suc, _≤_, _<_}
+use mathlib.Core.Path.{_≡_, refl, sym, subst}
+use mathlib.Core.List.{[], _∷_, _++_}
+use mathlib.Core.Bool.{Bool, true, false, _&&_}
+use Prim.Native.Nat.{ℕ, zero, suc, _≤_}
 use native.Mathlib.Omega.{arith}
 use lib.ListN.{length}
-use lib.Dec.{T, leb, ltb, leb→le, le→leb}
+use lib.Dec.{T, leb, leb→le, le→leb}
+use Rattle.std.proofs.shelf.Ways.{tells}
 use Rattle.model.specs.Numbers.{Bytes}
 use Rattle.model.specs.Text.{first-length, low, high, In, Character, one, two, three, four, Text, empty, more, test, Test-is-grammar}
 
@@ -37,15 +38,7 @@ lead : (lo hi b n : ℕ) (bs : Bytes) → first-length b ≡ suc n → T (test n
 lead lo hi b n bs e t = rw (e, test) t
 
 known : (b n : ℕ) → first-length b ≡ n → n ≤ 4
-known b n e = subst (λ k. k ≤ 4) e (go (ltb b 0x80) (ltb b 0xC2) (ltb b 0xE0) (ltb b 0xF0) (ltb b 0xF5))
-  where
-    go : (p q r s t : Bool) → cond p 1 (cond q 0 (cond r 2 (cond s 3 (cond t 4 0)))) ≤ 4
-    go true q r s t = omega arith
-    go false true r s t = omega arith
-    go false false true s t = omega arith
-    go false false false true t = omega arith
-    go false false false false true = omega arith
-    go false false false false false = omega arith
+known b n e = grind (arith, tells)
 
 -- from the test to the grammar
 follows : (lo hi b n : ℕ) (bs : Bytes) → first-length b ≡ suc n → T (test 0 lo hi (b ∷ bs)) → T (test n (low b) (high b) bs)

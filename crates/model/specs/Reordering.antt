@@ -18,8 +18,15 @@ reorder [] l = l
 reorder (i ∷ is) l = reorder is (swap i l)
 
 -- any order of a list is reached by such swaps: a permutation, as mathlib has it, is a reordering
-abbrev pub Every-order-is-reached : Type 1
-Every-order-is-reached = (A : Type 0) (l l′ : List A) → List·Permᴰ l l′ → (π : List ℕ) × (reorder π l ≡ l′)
+abbrev pub Reached-in : Type 0 → Type 0
+Reached-in X = (l l′ : List X) → List·Permᴰ l l′ → (π : List ℕ) × (reorder π l ≡ l′)
+
+-- so it is for each list of a page that can be put into another order
+pub record Every-order-is-reached : Type 0 where
+  pub of-page-items : Reached-in PageItem
+  pub of-card-actions : Reached-in CardAction
+  pub of-action-items : Reached-in ActionItem
+  pub of-attributes : Reached-in Attribute
 
 -- the i-th element changed
 abbrev pub at : {A : Type 0} → ℕ → (A → A) → List A → List A
