@@ -1,2 +1,7 @@
 pub mod Addresses
 pub mod Fronts
+pub mod Table
+pub mod Lengths
+pub mod TextSteps
+pub mod Stripped
+pub mod Utf8

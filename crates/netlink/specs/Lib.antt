@@ -1,3 +1,4 @@
 pub mod Errors
 pub mod Payloads
+pub mod Texts
 pub mod Walking

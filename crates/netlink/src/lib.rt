@@ -3,4 +3,5 @@ pub mod buffer;
 pub mod error;
 pub mod ip;
 pub mod parsers;
+pub mod text;
 pub mod walker;
