@@ -15,3 +15,6 @@ pub mod Books
 pub mod RecordLaws
 pub mod Texts
 pub mod Swaps
+pub mod Causes
+pub mod WriteRefusals
+pub mod PageRefusals

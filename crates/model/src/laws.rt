@@ -3,6 +3,7 @@ ghost use Rattle.model.specs.Examples.{Examples-hold};
 ghost use Rattle.model.specs.Shipped.{Books-lawful};
 ghost use Rattle.model.specs.Records.{Records-lawful};
 ghost use Rattle.model.specs.Text.{Test-is-grammar};
+ghost use Rattle.model.specs.Refusals.{Page-calls-answer-the-first-cause, Writing-out-answers-the-first-cause};
 ghost use Rattle.model.specs.Laws.{Walk-of-encode, Round-trip, Canonical, Page-is-its-card, Every-filter-is-a-page, Order-is-free};
 
 pub fn examples_hold() -> u8
@@ -64,3 +65,15 @@ pub fn text_test_is_the_grammar() -> u8
 {
     0
 }
+
+pub fn writing_out_answers_the_first_cause() -> u8
+    ensures { λ _. ⌜ Writing-out-answers-the-first-cause ⌝ }
+{
+    0
+}
+
+// pub fn page_calls_answer_the_first_cause() -> u8
+//     ensures { λ _. ⌜ Page-calls-answer-the-first-cause ⌝ }
+// {
+//     0
+// }
