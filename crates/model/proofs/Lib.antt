@@ -21,3 +21,6 @@ pub mod BookCalls
 pub mod Outputs
 pub mod Names
 pub mod CauseNumbers
+pub mod Causes
+pub mod WriteRefusals
+pub mod PageRefusals

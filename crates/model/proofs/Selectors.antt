@@ -90,7 +90,7 @@ keys-again : (ks : List Key) → All KeptKey ks → keys-in (length ks) (encode-
 keys-again [] h = refl
 keys-again (k ∷ ks) h = λ i. key-again k (encode-keys ks) (h .0) i ∷ keys-again ks (h .1) i
 
-length-encode-keys : (ks : List Key) → length (encode-keys ks) ≡ 16 * length ks
+pub length-encode-keys : (ks : List Key) → length (encode-keys ks) ≡ 16 * length ks
 length-encode-keys [] = refl
 length-encode-keys (k ∷ ks) = let i : length (encode-keys ks) ≡ 16 * length ks = length-encode-keys ks in omega arith
 
