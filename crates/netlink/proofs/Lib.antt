@@ -5,3 +5,5 @@ pub mod Lengths
 pub mod TextSteps
 pub mod Stripped
 pub mod Utf8
+pub mod Overwrites
+pub mod Forms
