@@ -30,7 +30,15 @@ of-mirror-actions (pos zero) = refl
 of-mirror-actions (pos (suc n)) = told mirror-action-number (λ i. pos (suc i)) (egress-redir ∷ egress-mirror ∷ ingress-redir ∷ ingress-mirror ∷ []) n (MirrorAction.other (pos (suc n))) refl refl
 
 pub names-tell-numbers : Names-tell-numbers
-names-tell-numbers = record { of-outcomes = of-outcomes; of-mirror-actions = of-mirror-actions }
+names-tell-numbers = record {
+  of-outcomes = of-outcomes;
+  of-mirror-actions = of-mirror-actions;
+  by-outcome = (refl, (refl, (refl, (refl, (refl, (refl, (refl, (refl, (refl, (refl, tt))))))))));
+  by-mirror-action = (refl, (refl, (refl, (refl, tt))))
+}
 
 pub outcome-is-told-by-the-head : Outcome-is-told-by-the-head
-outcome-is-told-by-the-head = (λ bs h. refl, λ bs h. refl, λ bs h. refl)
+outcome-is-told-by-the-head =
+    ( record { head = λ bs h. refl; told = λ bs h. refl }
+    , record { head = λ bs h. refl; told = λ bs h. refl }
+    , record { head = λ bs h. refl; told = λ bs h. refl } )

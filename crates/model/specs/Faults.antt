@@ -10,7 +10,7 @@ use Rattle.model.specs.declared.fault.Layer.{Layer}
 use Rattle.model.specs.declared.fault.Layer.the-variants.{FilterOption, Action, ActionAttribute, ActionOption}
 use Rattle.model.specs.declared.fault.Fault.{Fault}
 
--- each cause's number, which is its place in the order of checks
+-- each cause's number; a page call checks its causes in this order
 abbrev pub cause-number : Cause → ℕ
 cause-number TooLong = 1
 cause-number OtherMemory = 2

@@ -1,4 +1,4 @@
--- The page: what each call does, and runs of calls. Assumes nothing.
+-- The page, on which a filter is put together call by call: what each call checks and does. Assumes nothing.
 use mathlib.Core.List.{List, [], _∷_, _++_}
 use mathlib.Core.Bool.{Bool, true, false, cond, not}
 use Prim.Native.Nat.{ℕ, zero, suc, _+_, _-_, _≤_, _<_}

@@ -6,7 +6,7 @@ use lib.IntN.{ℤ}
 use Rattle.model.specs.Numbers.{Bytes, le, be, signed, le-bytes, be-bytes, signed-bytes}
 use Rattle.model.specs.Records.{Key, key}
 
--- The number of keys is the length of `keys`.
+-- a selector has as many keys as `nkeys` says
 pub record Selector : Type 0 where
   pub flags : ℕ
   pub offshift : ℕ

@@ -2,7 +2,7 @@
 ghost use mathlib.Core.Path.{_≡_};
 ghost use Rattle.model.specs.Faults.{cause-number, layer-number};
 
-/// Why something is not accepted. The causes stand in the order in which they are checked.
+/// Why something is not accepted. The causes stand in the order of their numbers, in which a page call checks them.
 #[derive(Clone, Copy, PartialEq, Eq, Debug)]
 pub enum Cause {
     /// A filter, or the memory of a new page, has more than 65,531 bytes.

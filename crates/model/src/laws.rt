@@ -60,14 +60,14 @@ pub fn records_keep_their_law() -> u8
     0
 }
 
-/// From number to name to number nothing is lost, for outcomes and mirror actions.
+/// From number to name to number nothing is lost, and each name is that of its number, for outcomes and mirror actions.
 pub fn names_tell_numbers() -> u8
     ensures { λ _. ⌜ Names-tell-numbers ⌝ }
 {
     0
 }
 
-/// A parameter record answers as its common head the generic record in its first 20 bytes.
+/// A parameter record answers as its common head the generic record in its first 20 bytes, and so tells the outcome in bytes 8 to 11.
 pub fn outcome_is_told_by_the_head() -> u8
     ensures { λ _. ⌜ Outcome-is-told-by-the-head ⌝ }
 {
@@ -130,7 +130,7 @@ pub fn page_is_its_card() -> u8
     0
 }
 
-/// Every filter that reads is, as it is written out, the page of some run in memory of just that length.
+/// Every filter that reads is, as it is written out within 65,531 bytes, the page of some run in memory of just that length.
 pub fn every_filter_is_a_page() -> u8
     ensures { λ _. ⌜ Every-filter-is-a-page ⌝ }
 {

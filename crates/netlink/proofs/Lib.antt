@@ -1,9 +1,3 @@
-pub mod Addresses
 pub mod Fronts
-pub mod Table
-pub mod Lengths
-pub mod TextSteps
-pub mod Stripped
-pub mod Utf8
 pub mod Overwrites
 pub mod Forms

@@ -1,7 +1,7 @@
 -- A default attribute is read as it stands, with its flags. Assumes nothing.
 use Rattle.std.specs.declared.result.Result.{Result}
 use Rattle.std.specs.declared.result.Result.the-variants.{Ok}
-use Rattle.netlink.specs.declared.error.DecodeError.{DecodeError}
+use Rattle.payload.specs.declared.error.DecodeError.{DecodeError}
 use Rattle.netlink.specs.declared.buffer.NlaBuffer.{NlaBuffer}
 use Rattle.netlink.specs.declared.«default_nla».DefaultNla.{DefaultNla}
 

@@ -3,9 +3,9 @@ ghost use mathlib.Core.Path.{_≡_};
 ghost use denote.Ref.{now as held};
 ghost use Rattle.netlink.specs.Defaults.{as-it-stands};
 use crate::buffer::NlaBuffer;
-use crate::error::DecodeError;
 use crate::nla::Nla;
 use crate::traits::Parseable;
+use payload::error::DecodeError;
 
 /// An attribute of no other type: it keeps its word with the flags, and its payload.
 #[derive(Clone, Copy)]

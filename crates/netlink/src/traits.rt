@@ -5,9 +5,9 @@ ghost use Prim.Native.Nat.{ℕ};
 ghost use lib.ListN.{length};
 ghost use Rattle.std.specs.declared.result.Result.{Result};
 ghost use Rattle.netlink.specs.Emission.{form-length, emission, buffer-after, by-number};
-ghost use Rattle.netlink.specs.declared.error.DecodeError.{DecodeError};
-use crate::error::DecodeError;
+ghost use Rattle.payload.specs.declared.error.DecodeError.{DecodeError};
 use model::fault::Cause;
+use payload::error::DecodeError;
 
 /// What can be read from a `T`.
 pub trait Parseable<T>: Sized {

@@ -1,12 +1,12 @@
 // Internet addresses from a payload of just their length.
 ghost use mathlib.Core.Path.{_≡_};
-ghost use Rattle.netlink.specs.Errors.{decoded};
-ghost use Rattle.netlink.specs.Payloads.{exactly, address, address-part};
+ghost use Rattle.payload.specs.Errors.{decoded};
+ghost use Rattle.payload.specs.Payloads.{exactly, address, address-part};
 use crate::error::DecodeError;
 use crate::parsers::wrong_length;
 
 /// An IPv4 address, by its four bytes as they stand in the payload.
-#[derive(Clone, Copy, PartialEq, Eq, Debug)]
+#[derive(Clone, Copy)]
 pub struct Ipv4Addr {
     pub octets: [u8; 4],
 }

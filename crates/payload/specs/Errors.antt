@@ -6,7 +6,7 @@ use Rattle.model.specs.declared.fault.Cause.{Cause}
 use Rattle.model.specs.declared.fault.Layer.{Layer}
 use Rattle.model.specs.declared.fault.Fault.{Fault}
 use Rattle.model.specs.Faults.{cause-number}
-use Rattle.netlink.specs.declared.error.DecodeError.{DecodeError}
+use Rattle.payload.specs.declared.error.DecodeError.{DecodeError}
 
 -- what is wrong with a payload: a cause's number, and the payload length wanted or 0
 pub record Lack : Type 0 where

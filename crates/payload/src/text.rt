@@ -4,7 +4,7 @@ ghost use Rattle.std.specs.Orderings.{Decides};
 ghost use Rattle.std.specs.Results.{isOk};
 ghost use Rattle.std.specs.Text.{Utf8};
 ghost use Rattle.model.specs.Text.{first-length, low, high, is-text, stripped};
-ghost use Rattle.netlink.specs.Texts.{spelt, text-in};
+ghost use Rattle.payload.specs.Texts.{spelt, text-in};
 use crate::error::DecodeError;
 use model::fault::Cause;
 use std::str::from_utf8_unchecked;

@@ -5,7 +5,7 @@ use Prim.Native.Nat.{ℕ, _<_}
 use lib.Dec.{eqb, eqb→eq}
 use lib.ListN.{getD, replicate}
 use Rattle.model.specs.Text.{first-length}
-use Rattle.netlink.proofs.Table.{at}
+use Rattle.payload.proofs.Table.{at}
 
 -- the table's entries, by their runs
 abbrev pub table : List ℕ

@@ -8,10 +8,10 @@ use Rattle.std.specs.declared.result.Result.the-variants.{Ok, Err}
 use denote.Ref.{now}
 use Rattle.model.specs.Numbers.{Bytes}
 use Rattle.model.specs.Faults.{cause-number}
-use Rattle.netlink.specs.declared.error.DecodeError.{DecodeError}
-use Rattle.netlink.specs.declared.ip.Ipv4Addr.{Ipv4Addr}
-use Rattle.netlink.specs.declared.ip.Ipv6Addr.{Ipv6Addr}
-use Rattle.netlink.specs.Errors.{Lack, lack}
+use Rattle.payload.specs.declared.error.DecodeError.{DecodeError}
+use Rattle.payload.specs.declared.ip.Ipv4Addr.{Ipv4Addr}
+use Rattle.payload.specs.declared.ip.Ipv6Addr.{Ipv6Addr}
+use Rattle.payload.specs.Errors.{Lack, lack}
 
 -- exactly n bytes, read by f; else cause 12, with n as the length wanted
 abbrev pub exactly : {A : Type 0} → (n : ℕ) → (Bytes → A) → Bytes → Result A Lack

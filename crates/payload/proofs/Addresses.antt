@@ -6,9 +6,9 @@ use native.Mathlib.Omega.{arith}
 use lib.ListN.{length, getD}
 use Rattle.std.specs.declared.result.Result.the-variants.{Ok}
 use Rattle.model.specs.Numbers.{Bytes}
-use Rattle.netlink.specs.Errors.{Lack}
-use Rattle.netlink.specs.Payloads.{exactly, address}
-use Rattle.netlink.specs.declared.ip.Ipv4Addr.{Ipv4Addr}
+use Rattle.payload.specs.Errors.{Lack}
+use Rattle.payload.specs.Payloads.{exactly, address}
+use Rattle.payload.specs.declared.ip.Ipv4Addr.{Ipv4Addr}
 
 pub four-bytes : (x : Bytes) → length x ≡ 4 → Ok (record { octets = getD x 0 0 ∷ getD x 1 0 ∷ getD x 2 0 ∷ getD x 3 0 ∷ [] }) ≡ exactly 4 address x
 four-bytes [] h = absurd (omega arith)

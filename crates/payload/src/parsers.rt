@@ -2,8 +2,8 @@
 ghost use mathlib.Core.Path.{_≡_};
 ghost use Rattle.model.specs.Numbers.{le, be, signed};
 ghost use Rattle.model.specs.declared.fault.Cause.the-variants.{WrongLength};
-ghost use Rattle.netlink.specs.Errors.{decoded};
-ghost use Rattle.netlink.specs.Payloads.{exactly};
+ghost use Rattle.payload.specs.Errors.{decoded};
+ghost use Rattle.payload.specs.Payloads.{exactly};
 use crate::error::DecodeError;
 use model::fault::Cause;
 

@@ -8,8 +8,8 @@ use Rattle.std.specs.declared.result.Result.the-variants.{Ok, Err}
 use Rattle.model.specs.Numbers.{Bytes}
 use Rattle.model.specs.Faults.{cause-number}
 use Rattle.model.specs.Text.{is-text, stripped}
-use Rattle.netlink.specs.Errors.{Lack, lack}
-use Rattle.netlink.specs.declared.error.DecodeError.{DecodeError}
+use Rattle.payload.specs.Errors.{Lack, lack}
+use Rattle.payload.specs.declared.error.DecodeError.{DecodeError}
 
 -- the payload less one zero at its end, where that is UTF-8; else cause 9
 abbrev pub text-in : Bytes → Result Bytes Lack

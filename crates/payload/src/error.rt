@@ -4,15 +4,13 @@ ghost use Prim.Native.Nat.{ℕ};
 ghost use Rattle.std.specs.declared.result.Result.{Result};
 ghost use Rattle.model.specs.declared.fault.Layer.{Layer};
 ghost use Rattle.model.specs.declared.fault.Fault.{Fault};
-ghost use Rattle.netlink.specs.Errors.{placed};
+ghost use Rattle.payload.specs.Errors.{placed};
 use model::fault::Cause;
-use model::fault::CauseDebug;
-use model::fault::CausePartialEq;
 use model::fault::Fault;
 use model::fault::Layer;
 
 /// What is wrong with a payload.
-#[derive(Clone, Copy, PartialEq, Eq, Debug)]
+#[derive(Clone, Copy)]
 pub struct DecodeError {
     pub cause: Cause,
     /// The payload length wanted, or 0.

@@ -3,8 +3,8 @@ use native.Mathlib.Omega.{arith}
 use mathlib.Core.Path.{_≡_}
 use Prim.Native.Nat.{_-_, _<_}
 use lib.ListN.{length, getD}
-use Rattle.netlink.proofs.Stripped.{last-zero, no-last-zero}
-use Rattle.netlink.proofs.text.without_last_zero.Needs as need
+use Rattle.payload.proofs.Stripped.{last-zero, no-last-zero}
+use Rattle.payload.proofs.text.without_last_zero.Needs as need
 
 pub returns-in-0 : need.returns-in-0
 returns-in-0 c =

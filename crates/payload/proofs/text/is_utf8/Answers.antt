@@ -5,10 +5,10 @@ use lib.Dec.{eqb}
 use lib.ListN.{drop}
 use Rattle.std.proofs.shelf.Lists.{at-drop-all}
 use Rattle.model.specs.Text.{test, is-text}
-use Rattle.netlink.proofs.TextSteps.{start-bad, start-good, next-low, next-high, next-good, ended, same-test}
-use Rattle.netlink.proofs.Utf8.{decided}
-use Rattle.netlink.proofs.text.is_utf8.Needs as need
-use Rattle.netlink.proofs.text.is_utf8.Needs.{then-b-from·by·then-b-from, then-b-from·by·else-b-from·then-to-b, then-left-eq0·else-n-eq0, else-left-eq0·else-b-from·else-to-b}
+use Rattle.payload.proofs.TextSteps.{start-bad, start-good, next-low, next-high, next-good, ended, same-test}
+use Rattle.payload.proofs.Utf8.{decided}
+use Rattle.payload.proofs.text.is_utf8.Needs as need
+use Rattle.payload.proofs.text.is_utf8.Needs.{then-b-from·by·then-b-from, then-b-from·by·else-b-from·then-to-b, then-left-eq0·else-n-eq0, else-left-eq0·else-b-from·else-to-b}
 
 pub returns-then-n-eq0 : need.returns-then-n-eq0
 returns-then-n-eq0 c =

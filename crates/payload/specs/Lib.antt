@@ -1,0 +1,3 @@
+pub mod Errors
+pub mod Payloads
+pub mod Texts
