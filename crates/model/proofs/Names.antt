@@ -34,11 +34,12 @@ names-tell-numbers = record {
   of-outcomes = of-outcomes;
   of-mirror-actions = of-mirror-actions;
   by-outcome = (refl, (refl, (refl, (refl, (refl, (refl, (refl, (refl, (refl, (refl, tt))))))))));
-  by-mirror-action = (refl, (refl, (refl, (refl, tt))))
+  by-mirror-action = (refl, (refl, (refl, (refl, tt))));
 }
 
 pub outcome-is-told-by-the-head : Outcome-is-told-by-the-head
-outcome-is-told-by-the-head =
-    ( record { head = λ bs h. refl; told = λ bs h. refl }
-    , record { head = λ bs h. refl; told = λ bs h. refl }
-    , record { head = λ bs h. refl; told = λ bs h. refl } )
+outcome-is-told-by-the-head = (
+  record { head = λ bs h. refl; told = λ bs h. refl },
+  record { head = λ bs h. refl; told = λ bs h. refl },
+  record { head = λ bs h. refl; told = λ bs h. refl },
+)

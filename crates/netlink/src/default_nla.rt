@@ -39,7 +39,7 @@ pub impl<'a> Nla for DefaultNla<'a> as DefaultNlaNla {
     }
 
     fn emit_value(&self, buffer: &mut [u8]) -> bool {
-        let whole = buffer.len() == self.value.len();
+        let whole = buffer.len() == self.value_len();
         if whole {
             buffer.copy_from_slice(self.value);
         }

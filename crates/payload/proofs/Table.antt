@@ -8,24 +8,25 @@ use lib.Dec.{T}
 use lib.ListN.{length, getD}
 
 -- the test f passes at each entry of the list and its place, counted from i
-abbrev pub every : (ℕ → ℕ → Bool) → ℕ → List ℕ → Bool
+abbrev pub every : {A : Type 0} → (ℕ → A → Bool) → ℕ → List A → Bool
 every f i [] = true
 every f i (x ∷ xs) = f i x && every f (suc i) xs
 
-left-of : (a b : Bool) → T (a && b) → T a
+pub left-of : (a b : Bool) → T (a && b) → T a
 left-of true b t = tt
 left-of false b t = t
 
-right-of : (a b : Bool) → T (a && b) → T b
+pub right-of : (a b : Bool) → T (a && b) → T b
 right-of true b t = t
 right-of false b t = absurd t
 
-from : (f : ℕ → ℕ → Bool) (xs : List ℕ) (i : ℕ) → T (every f i xs) → (k : ℕ) → k < length xs → T (f (i + k) (getD xs k 0))
-from f [] i t k h = absurd (not-suc-le-zero h)
-from f (x ∷ xs) i t zero h = subst (λ (n : ℕ). T (f n x)) (sym (add-zero i)) (left-of (f i x) (every f (suc i) xs) t)
-from f (x ∷ xs) i t (suc k) h =
-    subst (λ (n : ℕ). T (f n (getD xs k 0))) (suc-add i k ∙ sym (add-suc i k))
-    (from f xs (suc i) (right-of (f i x) (every f (suc i) xs) t) k (le-of-suc-le-suc h))
+module _ {A : Type 0} (f : ℕ → A → Bool) (d : A) where
+  from : (xs : List A) (i : ℕ) → T (every f i xs) → (k : ℕ) → k < length xs → T (f (i + k) (getD xs k d))
+  from [] i t k h = absurd (not-suc-le-zero h)
+  from (x ∷ xs) i t zero h = subst (λ (n : ℕ). T (f n x)) (sym (add-zero i)) (left-of (f i x) (every f (suc i) xs) t)
+  from (x ∷ xs) i t (suc k) h =
+      subst (λ (n : ℕ). T (f n (getD xs k d))) (suc-add i k ∙ sym (add-suc i k))
+      (from xs (suc i) (right-of (f i x) (every f (suc i) xs) t) k (le-of-suc-le-suc h))
 
-pub at : (f : ℕ → ℕ → Bool) (xs : List ℕ) → T (every f 0 xs) → (k : ℕ) → k < length xs → T (f k (getD xs k 0))
-at f xs t k h = subst (λ (n : ℕ). T (f n (getD xs k 0))) (zero-add k) (from f xs 0 t k h)
+  pub at : (xs : List A) → T (every f 0 xs) → (k : ℕ) → k < length xs → T (f k (getD xs k d))
+  at xs t k h = subst (λ (n : ℕ). T (f n (getD xs k d))) (zero-add k) (from xs 0 t k h)

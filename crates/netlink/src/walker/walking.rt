@@ -1,6 +1,6 @@
 // The walk itself, head by head.
 ghost use mathlib.Core.Path.{_≡_};
-ghost use Prim.Native.Nat.{_+_, _-_, _^_, min};
+ghost use Prim.Native.Nat.{_+_, _-_, _^_, _<_, min};
 ghost use Rattle.model.specs.Attributes.{type-of};
 ghost use lib.ListN.{length, drop};
 ghost use denote.Ref.{now as held};
@@ -12,6 +12,9 @@ use crate::buffer::NlaBuffer;
 use model::fault::Cause;
 use model::fault::Fault;
 use model::fault::Layer;
+
+/// The bytes of an attribute's head.
+const NLA_HEADER_SIZE: usize = 4;
 
 /// What stands at the front of a row of attributes.
 #[derive(Clone, Copy)]
@@ -46,10 +49,10 @@ fn front<'a>(bytes: &'a [u8], place: usize, layer: Layer) -> Result<Option<Found
             if length > bytes.len() {
                 return Err(head_fault(Cause::LengthBeyondEnd, place, layer));
             }
-            if length < 4 {
+            if length < NLA_HEADER_SIZE {
                 return Err(head_fault(Cause::LengthBelowHead, place, layer));
             }
-            let value = &rest[0..length - 4];
+            let value = &rest[0..length - NLA_HEADER_SIZE];
             let onward = (length + 3) / 4 * 4;
             let from = onward.min(bytes.len());
             let rest = &bytes[from..];
@@ -71,7 +74,7 @@ pub impl<'a> Iterator for NlasIterator<'a> as NlasIteratorIterator {
     ghost left = { λ s. length (held (s .rest)) };
 
     fn next(&mut self) -> Option<Result<NlaBuffer<'a>, Fault>> {
-        let place = self.end - self.rest.len();
+        let place = self.place();
         match front(self.rest, place, self.layer) {
             Ok(found) => match found {
                 Some(a) => {
@@ -96,6 +99,7 @@ impl<'a> NlasIterator<'a> {
     /// A walk over a whole filter, or over another row of attributes of which the first byte has the place 0.
     pub fn new(bytes: &'a [u8], layer: Layer) -> Self
         ensures walks { λ r. ⌜ ahead r ≡ walk 0 (now (bytes .entry)) ⌝ }
+        ensures rest { λ r. ⌜ now (r .rest) ≡ now (bytes .entry) ⌝ }
         ensures ends { λ r. ⌜ r .end ≡ length (now (bytes .entry)) ⌝ }
         ensures layer { λ r. ⌜ r .layer ≡ layer ⌝ }
     {
@@ -124,6 +128,7 @@ impl<'a> NlaBuffer<'a> {
 
     /// A walk over the attributes in the payload, which begins 4 bytes behind the head. (A place so high that the payload would end beyond the largest number is drawn back to end there.)
     pub fn nested(&self, layer: Layer) -> NlasIterator<'a>
+        ensures walks { λ r. ⌜ (now (self .entry) .place + (4 + length (now (now (self .entry) .value))) < 2 ^ 64 → ahead r ≡ walk (now (self .entry) .place + 4) (now (now (self .entry) .value))) ⌝ }
         ensures rest { λ r. ⌜ now (r .rest) ≡ now (now (self .entry) .value) ⌝ }
         ensures ends { λ r. ⌜ r .end ≡ min (now (self .entry) .place + (4 + length (now (now (self .entry) .value)))) (2 ^ 64 - 1) ⌝ }
         ensures layer { λ r. ⌜ r .layer ≡ layer ⌝ }

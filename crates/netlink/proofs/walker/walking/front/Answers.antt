@@ -18,7 +18,7 @@ returns-in-rest c =
       subst (λ (f : Fault). numbers f ≡ fault (cause-number (f .cause)) (c .args .place) (layer-number (c .args .layer))) (sym (c .head-fault .ensures)) refl,
     )
 
-pub returns-else-length-lt4 : need.returns-else-length-lt4
-returns-else-length-lt4 c =
+pub returns-else-length-lt-NLA-HEADER-SIZE : need.returns-else-length-lt-NLA-HEADER-SIZE
+returns-else-length-lt-NLA-HEADER-SIZE c =
     found-front (c .args .place) (c .from-le-bytes-length .result) (c .from-le-bytes-word .result) (c .min-from .result) (c .args .bytes .now)
     (omega arith) (c .from-le-bytes-length .ensures) (c .from-le-bytes-word .ensures) (omega arith) (omega arith) (c .min-from .ensures)
