@@ -30,19 +30,10 @@ fn show(rt: &LibcRuntime, title: &str, filter: &[u8]) -> io::Result<()> {
             )?;
         }
         Err(Unwritten::Fault(fault)) => {
-            let cause = fault.cause.number();
-            println!(
-                rt,
-                "Not written again: the walk has a fault of cause {cause}."
-            )?;
+            let cause = fault.cause;
+            println!(rt, "Not written again: {cause}.")?;
         }
-        Err(Unwritten::Refused(cause)) => {
-            let cause = cause.number();
-            println!(
-                rt,
-                "Not written again: the writer refuses by cause {cause}."
-            )?;
-        }
+        Err(Unwritten::Refused(cause)) => println!(rt, "Not written again: {cause}.")?,
         Err(Unwritten::NoMemory) => println!(rt, "Not written again: no memory.")?,
     }
     println!(rt, "")
