@@ -13,7 +13,7 @@ use std::alloc::AllocError;
 use std::alloc::Global;
 
 /// The layer of the attributes that the payload of an attribute holds, where it holds any: a list of actions, an action, an action's options.
-pub fn inside(layer: Layer, kind: u16) -> Option<Layer>
+fn inside(layer: Layer, kind: u16) -> Option<Layer>
     ensures { λ r. ⌜ r ≡ layer-inside layer kind ⌝ }
 {
     match (layer, kind) {
@@ -25,7 +25,7 @@ pub fn inside(layer: Layer, kind: u16) -> Option<Layer>
 }
 
 /// The bytes in hexadecimal, with blanks between them.
-pub fn hex(heap: Global, bytes: &[u8]) -> Result<String, AllocError> {
+fn hex(heap: Global, bytes: &[u8]) -> Result<String, AllocError> {
     let mut text = String::new(heap);
     for b in bytes {
         if !text.is_empty() {
@@ -111,7 +111,7 @@ fn list(
 }
 
 /// A line for each attribute of a filter, those inside others indented below them.
-pub fn listing(heap: Global, filter: &[u8]) -> Result<Vec<String>, AllocError> {
+pub(crate) fn listing(heap: Global, filter: &[u8]) -> Result<Vec<String>, AllocError> {
     let mut lines = Vec::new(heap);
     list(
         heap,

@@ -18,7 +18,7 @@ use std::alloc::Global;
 
 /// Why a filter was not written again.
 #[derive(Drop)]
-pub enum Unwritten {
+pub(crate) enum Unwritten {
     NoMemory,
     Fault(Fault),
     Refused(Cause),
@@ -43,7 +43,7 @@ impl From<Cause> for Unwritten as UnwrittenFromCause {
 }
 
 /// Each option as a default attribute, one after another: head, payload and zero padding.
-pub fn rewritten(heap: Global, filter: &[u8]) -> Result<Vec<u8>, Unwritten> {
+pub(crate) fn rewritten(heap: Global, filter: &[u8]) -> Result<Vec<u8>, Unwritten> {
     let mut written = Vec::new(heap);
     for found in NlasIterator::new(filter, Layer::FilterOption) {
         let nla = found?;

@@ -22,13 +22,13 @@ const OPTIONS: &[u8] =
     b"\x24\x00\x02\x80\x20\x00\x02\x00\x01\x00\x00\x00\x00\x00\x00\x00\x03\x00\x00\x00\x00\x00\x00\x00\x00\x00\x00\x00\x02\x00\x00\x00\x07\x00\x00\x00";
 
 /// The kind with a zero after its text, as the `tc` tool writes it.
-pub const WITH_ZERO: &[u8] = b"\x0B\x00\x01\x00mirred\x00\x00";
+pub(crate) const WITH_ZERO: &[u8] = b"\x0B\x00\x01\x00mirred\x00\x00";
 
 /// The same kind with no zero: the two bytes behind it are padding.
-pub const WITHOUT_ZERO: &[u8] = b"\x0A\x00\x01\x00mirred\x00\x00";
+pub(crate) const WITHOUT_ZERO: &[u8] = b"\x0A\x00\x01\x00mirred\x00\x00";
 
 /// The entry, with its kind spelt so.
-pub fn entry(heap: Global, kind: &[u8]) -> Result<Vec<u8>, AllocError>
+pub(crate) fn entry(heap: Global, kind: &[u8]) -> Result<Vec<u8>, AllocError>
     ensures { λ r. ⌜ made r (λ v. vec-items v ≡ before-kind ++ (now (kind .entry) ++ behind-kind)) ⌝ }
 {
     let mut filter = Vec::new(heap);
