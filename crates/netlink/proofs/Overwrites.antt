@@ -4,18 +4,23 @@ use mathlib.Core.List.{List, [], _∷_, _++_}
 use Prim.Native.Nat.{ℕ, _+_, _-_, _≤_}
 use native.Mathlib.Omega.{arith}
 use native.Mathlib.Nat.{add-assoc}
+use lib.Dec.{leb}
 use lib.ListN.{length, take, drop, replicate}
-use borrow.Author.Needs.{needs}
 use borrow.Rule.Slice.PartMut.{putMid}
-use Rattle.std.proofs.shelf.Parts.{overwrites}
 use Rattle.std.proofs.shelf.Lists.{append-assoc, length-append, length-take-le, length-drop, take-at, drop-at, drop-drop, take-replicate}
+use Rattle.std.proofs.shelf.Tests.{cond-true, le-leb}
 use Rattle.model.specs.Numbers.{Bytes}
 use Rattle.model.specs.Page.{over}
+use Rattle.netlink.specs.Emission.{over-if-it-fits}
 
 -- a part that is written whole, as the checker has it
 pub put-over : (bs : Bytes) (at k : ℕ) (last p : Bytes) → last ≡ p → k ≡ length p → at ≤ length bs → putMid at k bs last ≡ over bs at p
 put-over bs at k last p e s h =
     ap (putMid at k bs) e ∙ ap (λ (r : Bytes). take at bs ++ (p ++ r)) (drop-drop k at bs ∙ ap (λ (n : ℕ). drop (at + n) bs) s)
+
+-- what fits is written
+pub fitted : (bs : Bytes) (at : ℕ) (p o : Bytes) → o ≡ over-if-it-fits bs at p → at + length p ≤ length bs → o ≡ over bs at p
+fitted bs at p o e h = e ∙ cond-true (leb (at + length p) (length bs)) (over bs at p) bs (le-leb (at + length p) (length bs) h)
 
 take-over : (bs : Bytes) (at : ℕ) (p : Bytes) → at ≤ length bs → take (at + length p) (over bs at p) ≡ take at bs ++ p
 take-over bs at p h =

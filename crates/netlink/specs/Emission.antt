@@ -1,14 +1,15 @@
 -- What writing a value into a buffer answers, and what the buffer holds then. Assumes nothing.
 use mathlib.Core.List.{List, _++_}
 use mathlib.Core.Bool.{cond}
-use Prim.Native.Nat.{ℕ}
-use lib.Dec.{ltb}
+use Prim.Native.Nat.{ℕ, _+_}
+use lib.Dec.{leb, ltb}
 use lib.ListN.{length, drop}
 use Rattle.std.specs.declared.result.Result.{Result}
 use Rattle.std.specs.declared.result.Result.the-variants.{Ok, Err}
 use Rattle.model.specs.Numbers.{Bytes}
 use Rattle.model.specs.Faults.{cause-number}
 use Rattle.model.specs.Attributes.{attribute, encode}
+use Rattle.model.specs.Page.{over}
 use Rattle.model.specs.declared.fault.Cause.{Cause}
 
 -- the bytes that an attribute is written as; 15 where its length field can't tell its length
@@ -34,3 +35,7 @@ buffer-after old (Err c) = old
 abbrev pub by-number : {A : Type 0} → Result A Cause → Result A ℕ
 by-number (Ok a) = Ok a
 by-number (Err c) = Err (cause-number c)
+
+-- a part written over a buffer from a place on, where it goes in
+abbrev pub over-if-it-fits : (buffer : Bytes) → (at : ℕ) → (part : Bytes) → Bytes
+over-if-it-fits bs at p = cond (leb (at + length p) (length bs)) (over bs at p) bs

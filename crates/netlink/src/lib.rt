@@ -2,6 +2,7 @@
 pub mod buffer;
 pub mod default_nla;
 pub mod nla;
+pub mod overwrite;
 pub mod traits;
 pub mod walker;
 

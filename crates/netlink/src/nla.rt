@@ -8,6 +8,7 @@ ghost use lib.ListN.{length};
 ghost use Rattle.model.specs.Attributes.{head, rounded};
 ghost use Rattle.model.specs.Page.{over};
 ghost use Rattle.netlink.specs.Emission.{attribute-form, buffer-after};
+use crate::overwrite::overwrite;
 use crate::traits::Emitable;
 use model::fault::Cause;
 
@@ -37,14 +38,6 @@ pub trait Nla {
         ensures after { λ _. ⌜ now (buffer .exit) ≡ cond (eqb (length (payload (now (self .entry)))) (length (now (buffer .entry)))) (payload (now (self .entry))) (now (buffer .entry)) ⌝ };
 }
 
-/// Writes `part` over the buffer from `at` on.
-fn write_part(buffer: &mut [u8], at: usize, part: &[u8])
-    requires { ⌜ at + length (now part) ≤ length (now buffer) ⌝ }
-    ensures { λ _. ⌜ now (buffer .exit) ≡ over (now (buffer .entry)) at (now (part .entry)) ⌝ }
-{
-    buffer[at..at + part.len()].copy_from_slice(part);
-}
-
 /// The four bytes of an attribute's head.
 fn head_bytes(size: u16, word: u16) -> [u8; 4]
     ensures { λ r. ⌜ r ≡ head size word ⌝ }
@@ -72,9 +65,9 @@ fn write_attribute<T: Nla>(nla: &T, buffer: &mut [u8], size: usize)
 {
     let end = 4 + nla.value_len();
     let head = head_bytes(end as u16, nla.kind());
-    write_part(buffer, 0, &head);
+    overwrite(buffer, 0, &head);
     write_payload(nla, buffer, 4, end - 4);
-    write_part(buffer, end, &ZEROS[0..size - end]);
+    overwrite(buffer, end, &ZEROS[0..size - end]);
 }
 
 pub impl<T: Nla> Emitable for T as NlaEmitable {

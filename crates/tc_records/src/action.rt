@@ -1,0 +1,1 @@
+// What every action has: the common head of its parameters, and its times.
