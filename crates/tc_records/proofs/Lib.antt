@@ -1,2 +1,4 @@
 pub mod Parts
 pub mod Written
+pub mod Same
+pub mod Mirrors

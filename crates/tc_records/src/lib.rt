@@ -1,5 +1,11 @@
-// The records of traffic control: fixed layouts of numbers, and the selector.
+// The records of traffic control: fixed layouts of numbers, their names, and the selector.
 pub mod action;
 pub mod cls_u32;
 mod fields;
+pub mod mirror;
+pub mod mirror_action;
+pub mod nat;
+pub mod outcome;
+pub mod parameters;
 pub mod record;
+pub mod tunnel_key;
