@@ -4,6 +4,7 @@ ghost use denote.Ref.{now as held};
 ghost use Rattle.netlink.specs.Defaults.{as-it-stands};
 use crate::buffer::NlaBuffer;
 use crate::nla::Nla;
+use crate::overwrite::fill;
 use crate::traits::Parseable;
 use payload::error::DecodeError;
 
@@ -39,10 +40,6 @@ pub impl<'a> Nla for DefaultNla<'a> as DefaultNlaNla {
     }
 
     fn emit_value(&self, buffer: &mut [u8]) -> bool {
-        let whole = buffer.len() == self.value_len();
-        if whole {
-            buffer.copy_from_slice(self.value);
-        }
-        whole
+        fill(buffer, self.value)
     }
 }

@@ -1,7 +1,8 @@
-// Writing over a part of a buffer.
+// Writing over a buffer: a part of it, or the whole.
 ghost use mathlib.Core.Path.{_≡_};
 ghost use Prim.Native.Nat.{_+_};
-ghost use lib.Dec.{leb};
+ghost use mathlib.Core.Bool.{cond};
+ghost use lib.Dec.{leb, eqb};
 ghost use lib.ListN.{length};
 ghost use Rattle.netlink.specs.Emission.{over-if-it-fits};
 
@@ -15,4 +16,16 @@ pub fn overwrite(buffer: &mut [u8], at: usize, part: &[u8]) -> bool
     }
     buffer[at..at + part.len()].copy_from_slice(part);
     true
+}
+
+/// Writes the bytes into a buffer of just their length. A buffer of another length gets a `false`, and stays as it was.
+pub fn fill(buffer: &mut [u8], bytes: &[u8]) -> bool
+    ensures value { λ r. ⌜ r ≡ eqb (length (now (bytes .entry))) (length (now (buffer .entry))) ⌝ }
+    ensures after { λ _. ⌜ now (buffer .exit) ≡ cond (eqb (length (now (bytes .entry))) (length (now (buffer .entry)))) (now (bytes .entry)) (now (buffer .entry)) ⌝ }
+{
+    let whole = bytes.len() == buffer.len();
+    if whole {
+        buffer.copy_from_slice(bytes);
+    }
+    whole
 }

@@ -5,17 +5,17 @@ ghost use Prim.Native.Nat.{ℕ};
 ghost use lib.ListN.{length};
 ghost use Rattle.std.specs.declared.result.Result.{Result};
 ghost use Rattle.netlink.specs.Emission.{form-length, emission, buffer-after, by-number};
-ghost use Rattle.payload.specs.declared.error.DecodeError.{DecodeError};
+ghost use Rattle.payload.specs.Errors.{Lack, decoded};
 use model::fault::Cause;
 use payload::error::DecodeError;
 
 /// What can be read from a `T`.
 pub trait Parseable<T>: Sized {
-    /// What a `T` reads as.
-    ghost parsed: { T → Result Self DecodeError };
+    /// What a `T` reads as, or what is wrong with it.
+    ghost parsed: { T → Result Self Lack };
 
     fn parse(buf: &T) -> Result<Self, DecodeError>
-        ensures { λ r. ⌜ r ≡ parsed (now (buf .entry)) ⌝ };
+        ensures { λ r. ⌜ decoded r ≡ parsed (now (buf .entry)) ⌝ };
 }
 
 /// What can be written at the front of a buffer.

@@ -1,0 +1,4 @@
+pub mod Carried
+pub mod Mirrors
+pub mod Nats
+pub mod TunnelKeys
