@@ -26,7 +26,7 @@ clash w x n d q = let z : _≡_ {A = ℕ} 0 1 = cc in absurd (omega arith)
 number-same : {n n′ d d′ : ℕ} → refuse n d ≡ refuse n′ d′ → n ≡ n′
 number-same q = cc
 
-plain-laws : BookLaws plain
+pub plain-laws : BookLaws plain
 plain-laws = record {
   shorter = λ k w x w′ x′ q. let e : length x ≡ length x′ = ap length (payload-same q) in omega arith;
   settled = λ k w x w′ x′ q. refl;
@@ -137,7 +137,7 @@ form-of k w = getD (forms k) (type-of w) default
 facts : (k : Bytes) (w : ℕ) (x : Bytes) (w′ : ℕ) (x′ : Bytes) → shipped k w x ≡ accept w′ x′ → Judged (form-of k w) w x w′ x′
 facts k w x w′ x′ q = judged (form-of k w) w x w′ x′ q
 
-shipped-laws : BookLaws shipped
+pub shipped-laws : BookLaws shipped
 shipped-laws = record {
   shorter = λ k w x w′ x′ q. facts k w x w′ x′ q .shorter;
   settled = λ k w x w′ x′ q. let j = facts k w x w′ x′ q in ap (λ (t : ℕ). judge (getD (forms k) t default) w′ x′) (j .type-kept) ∙ j .again;

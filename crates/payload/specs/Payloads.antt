@@ -5,10 +5,8 @@ use lib.Dec.{eqb}
 use lib.ListN.{length}
 use Rattle.std.specs.declared.result.Result.{Result}
 use Rattle.std.specs.declared.result.Result.the-variants.{Ok, Err}
-use denote.Ref.{now}
+use denote.Ref.{RefT}
 use Rattle.model.specs.Numbers.{Bytes}
-use Rattle.model.specs.Faults.{cause-number}
-use Rattle.payload.specs.declared.error.DecodeError.{DecodeError}
 use Rattle.payload.specs.declared.ip.Ipv4Addr.{Ipv4Addr}
 use Rattle.payload.specs.declared.ip.Ipv6Addr.{Ipv6Addr}
 use Rattle.payload.specs.Errors.{Lack, lack}
@@ -21,6 +19,5 @@ exactly n f x = cond (eqb (length x) n) (Ok (f x)) (Err (lack 12 n))
 abbrev pub address : Bytes → Ipv4Addr
 address x = record { octets = x }
 
-abbrev pub address-part : Result Ipv6Addr DecodeError → Result Bytes Lack
-address-part (Ok a) = Ok (now (a .octets))
-address-part (Err e) = Err (lack (cause-number (e .cause)) (e .need))
+abbrev pub address-part : RefT Bytes → Ipv6Addr
+address-part p = record { octets = p }

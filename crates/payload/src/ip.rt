@@ -31,7 +31,7 @@ pub fn parse_ipv4_addr(raw: &[u8]) -> Result<Ipv4Addr, DecodeError>
 
 /// An IPv6 address from a payload of 16 bytes.
 pub fn parse_ipv6_addr<'a>(raw: &'a [u8]) -> Result<Ipv6Addr<'a>, DecodeError>
-    ensures { λ r. ⌜ address-part r ≡ exactly 16 (λ x. x) (now (raw .entry)) ⌝ }
+    ensures { λ r. ⌜ decoded r ≡ exactly 16 (λ _. address-part (raw .entry)) (now (raw .entry)) ⌝ }
 {
     if raw.len() == 16 {
         Ok(Ipv6Addr { octets: raw })

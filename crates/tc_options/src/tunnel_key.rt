@@ -1,4 +1,6 @@
 // The options of a tunnel key action.
+ghost use mathlib.Core.Path.{_≡_};
+ghost use lib.ListN.{length};
 ghost use Rattle.tc_options.specs.TunnelKeys.{tunnel-key-option, tunnel-key-word, tunnel-key-payload};
 use netlink::buffer::NlaBuffer;
 use netlink::default_nla::DefaultNla;
@@ -46,6 +48,13 @@ const TCA_TUNNEL_KEY_ENC_TOS: u16 = 12;
 
 const TCA_TUNNEL_KEY_ENC_TTL: u16 = 13;
 
+/// How many bytes these are.
+fn length_of(bytes: &[u8]) -> usize
+    ensures { λ r. ⌜ r ≡ length (now (bytes .entry)) ⌝ }
+{
+    bytes.len()
+}
+
 /// An option of a tunnel key action.
 #[derive(Clone, Copy)]
 pub enum TcActionTunnelKeyOption<'a> {
@@ -81,39 +90,37 @@ pub impl<'a> Parseable<NlaBuffer<'a>> for TcActionTunnelKeyOption<
     ghost parsed = { tunnel-key-option };
 
     fn parse(buf: &NlaBuffer<'a>) -> Result<TcActionTunnelKeyOption<'a>, DecodeError> {
-        Ok(
-            match buf.kind() {
-                TCA_TUNNEL_KEY_TM => TcActionTunnelKeyOption::Tm(parse_record(buf.value)?),
-                TCA_TUNNEL_KEY_PARMS => TcActionTunnelKeyOption::Parms(parse_record(buf.value)?),
-                TCA_TUNNEL_KEY_ENC_IPV4_SRC => TcActionTunnelKeyOption::EncIpv4Src(
-                    parse_ipv4_addr(buf.value)?,
-                ),
-                TCA_TUNNEL_KEY_ENC_IPV4_DST => TcActionTunnelKeyOption::EncIpv4Dst(
-                    parse_ipv4_addr(buf.value)?,
-                ),
-                TCA_TUNNEL_KEY_ENC_IPV6_SRC => TcActionTunnelKeyOption::EncIpv6Src(
-                    parse_ipv6_addr(buf.value)?,
-                ),
-                TCA_TUNNEL_KEY_ENC_IPV6_DST => TcActionTunnelKeyOption::EncIpv6Dst(
-                    parse_ipv6_addr(buf.value)?,
-                ),
-                TCA_TUNNEL_KEY_ENC_KEY_ID => TcActionTunnelKeyOption::EncKeyId(
-                    parse_u32_be(buf.value)?,
-                ),
-                TCA_TUNNEL_KEY_ENC_DST_PORT => TcActionTunnelKeyOption::EncDstPort(
-                    parse_u16_be(buf.value)?,
-                ),
-                TCA_TUNNEL_KEY_NO_CSUM => TcActionTunnelKeyOption::NoCsum(
-                    parse_u8(buf.value)? != 0,
-                ),
-                TCA_TUNNEL_KEY_ENC_TOS => TcActionTunnelKeyOption::EncTos(parse_u8(buf.value)?),
-                TCA_TUNNEL_KEY_ENC_TTL => TcActionTunnelKeyOption::EncTtl(parse_u8(buf.value)?),
-                _ => TcActionTunnelKeyOption::Other(DefaultNla {
-                    word: buf.word,
-                    value: buf.value,
-                }),
-            },
-        )
+        match buf.kind() {
+            TCA_TUNNEL_KEY_TM => Ok(TcActionTunnelKeyOption::Tm(parse_record(buf.value)?)),
+            TCA_TUNNEL_KEY_PARMS => Ok(TcActionTunnelKeyOption::Parms(parse_record(buf.value)?)),
+            TCA_TUNNEL_KEY_ENC_IPV4_SRC => Ok(TcActionTunnelKeyOption::EncIpv4Src(
+                parse_ipv4_addr(buf.value)?,
+            )),
+            TCA_TUNNEL_KEY_ENC_IPV4_DST => Ok(TcActionTunnelKeyOption::EncIpv4Dst(
+                parse_ipv4_addr(buf.value)?,
+            )),
+            TCA_TUNNEL_KEY_ENC_IPV6_SRC => Ok(TcActionTunnelKeyOption::EncIpv6Src(
+                parse_ipv6_addr(buf.value)?,
+            )),
+            TCA_TUNNEL_KEY_ENC_IPV6_DST => Ok(TcActionTunnelKeyOption::EncIpv6Dst(
+                parse_ipv6_addr(buf.value)?,
+            )),
+            TCA_TUNNEL_KEY_ENC_KEY_ID => Ok(TcActionTunnelKeyOption::EncKeyId(
+                parse_u32_be(buf.value)?,
+            )),
+            TCA_TUNNEL_KEY_ENC_DST_PORT => Ok(TcActionTunnelKeyOption::EncDstPort(
+                parse_u16_be(buf.value)?,
+            )),
+            TCA_TUNNEL_KEY_NO_CSUM => Ok(TcActionTunnelKeyOption::NoCsum(
+                parse_u8(buf.value)? != 0,
+            )),
+            TCA_TUNNEL_KEY_ENC_TOS => Ok(TcActionTunnelKeyOption::EncTos(parse_u8(buf.value)?)),
+            TCA_TUNNEL_KEY_ENC_TTL => Ok(TcActionTunnelKeyOption::EncTtl(parse_u8(buf.value)?)),
+            _ => Ok(TcActionTunnelKeyOption::Other(DefaultNla {
+                word: buf.word,
+                value: buf.value,
+            })),
+        }
     }
 }
 
@@ -126,9 +133,9 @@ pub impl<'a> Nla for TcActionTunnelKeyOption<'a> as TcActionTunnelKeyOptionNla {
         match self {
             TcActionTunnelKeyOption::Tm(_) => TcfRecord::size(),
             TcActionTunnelKeyOption::Parms(_) => TcTunnelKeyRecord::size(),
-            TcActionTunnelKeyOption::EncIpv4Src(_)
-            | TcActionTunnelKeyOption::EncIpv4Dst(_)
-            | TcActionTunnelKeyOption::EncKeyId(_) => 4,
+            TcActionTunnelKeyOption::EncIpv4Src(address)
+            | TcActionTunnelKeyOption::EncIpv4Dst(address) => length_of(&address.octets),
+            TcActionTunnelKeyOption::EncKeyId(_) => 4,
             TcActionTunnelKeyOption::EncIpv6Src(address)
             | TcActionTunnelKeyOption::EncIpv6Dst(address) => address.octets.len(),
             TcActionTunnelKeyOption::EncDstPort(_) => 2,
