@@ -20,10 +20,10 @@ module _ (bs : Bytes) (o : Octets bs) where
   part-octets : (i n : ℕ) → Octets (part i n bs)
   part-octets i n = octets-take n (drop i bs) (octets-drop i bs o)
 
-  le-back : (i n : ℕ) → i + n ≤ length bs → le-bytes n (le i n bs) ≡ part i n bs
+  pub le-back : (i n : ℕ) → i + n ≤ length bs → le-bytes n (le i n bs) ≡ part i n bs
   le-back i n h = ap (λ (k : ℕ). bytes-of k (number (part i n bs))) (sym (part-length i n h)) ∙ bytes-number (part i n bs) (part-octets i n)
 
-  be-back : (i n : ℕ) → i + n ≤ length bs → be-bytes n (be i n bs) ≡ part i n bs
+  pub be-back : (i n : ℕ) → i + n ≤ length bs → be-bytes n (be i n bs) ≡ part i n bs
   be-back i n h =
       let x = part i n bs in
       let size : n ≡ length (reverse x) = sym (length-reverse x ∙ part-length i n h) in

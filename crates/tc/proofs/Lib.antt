@@ -1,1 +1,3 @@
 pub mod Piles
+pub mod Told
+pub mod Families

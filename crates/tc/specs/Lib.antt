@@ -1,2 +1,3 @@
 pub mod Judgements
+pub mod Families
 pub mod Piles

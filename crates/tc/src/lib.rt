@@ -3,3 +3,4 @@ pub mod book;
 #[cfg(test)]
 mod pile;
 pub mod plain;
+pub mod shipped;

@@ -15,11 +15,15 @@ use Rattle.tc_options.specs.Carried.{record-in}
 use Rattle.tc_options.specs.declared.mirror.TcActionMirrorOption.{TcActionMirrorOption}
 use Rattle.tc_options.specs.declared.mirror.TcActionMirrorOption.the-variants.{Tm, Parms, Other}
 
-abbrev pub mirror-option : NlaBuffer → Result TcActionMirrorOption Lack
-mirror-option b =
-    cond (eqb (type-of (b .word)) 1) (record-in times of-times Tm (now (b .value)))
-    (cond (eqb (type-of (b .word)) 2) (record-in mirror of-mirror Parms (now (b .value)))
+-- by its type
+abbrev pub mirror-by : (type : ℕ) → NlaBuffer → Result TcActionMirrorOption Lack
+mirror-by t b =
+    cond (eqb t 1) (record-in times of-times Tm (now (b .value)))
+    (cond (eqb t 2) (record-in mirror of-mirror Parms (now (b .value)))
     (Ok (Other (record { word = b .word; value = b .value }))))
+
+abbrev pub mirror-option : NlaBuffer → Result TcActionMirrorOption Lack
+mirror-option b = mirror-by (type-of (b .word)) b
 
 abbrev pub mirror-word : TcActionMirrorOption → ℕ
 mirror-word (Tm t) = 1

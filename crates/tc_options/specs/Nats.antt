@@ -15,11 +15,15 @@ use Rattle.tc_options.specs.Carried.{record-in}
 use Rattle.tc_options.specs.declared.nat.TcActionNatOption.{TcActionNatOption}
 use Rattle.tc_options.specs.declared.nat.TcActionNatOption.the-variants.{Tm, Parms, Other}
 
-abbrev pub nat-option : NlaBuffer → Result TcActionNatOption Lack
-nat-option b =
-    cond (eqb (type-of (b .word)) 1) (record-in nat of-nat Parms (now (b .value)))
-    (cond (eqb (type-of (b .word)) 2) (record-in times of-times Tm (now (b .value)))
+-- by its type
+abbrev pub nat-by : (type : ℕ) → NlaBuffer → Result TcActionNatOption Lack
+nat-by t b =
+    cond (eqb t 1) (record-in nat of-nat Parms (now (b .value)))
+    (cond (eqb t 2) (record-in times of-times Tm (now (b .value)))
     (Ok (Other (record { word = b .word; value = b .value }))))
+
+abbrev pub nat-option : NlaBuffer → Result TcActionNatOption Lack
+nat-option b = nat-by (type-of (b .word)) b
 
 abbrev pub nat-word : TcActionNatOption → ℕ
 nat-word (Tm t) = 2

@@ -22,20 +22,24 @@ use Rattle.tc_options.specs.declared.«tunnel_key».TcActionTunnelKeyOption.th
 abbrev part-of : NlaBuffer → Ipv6Addr
 part-of b = record { octets = b .value }
 
-abbrev pub tunnel-key-option : NlaBuffer → Result TcActionTunnelKeyOption Lack
-tunnel-key-option b =
-    cond (eqb (type-of (b .word)) 1) (record-in times of-times Tm (now (b .value)))
-    (cond (eqb (type-of (b .word)) 2) (record-in tunnel-key of-tunnel-key Parms (now (b .value)))
-    (cond (eqb (type-of (b .word)) 3) (carried EncIpv4Src (exactly 4 address (now (b .value))))
-    (cond (eqb (type-of (b .word)) 4) (carried EncIpv4Dst (exactly 4 address (now (b .value))))
-    (cond (eqb (type-of (b .word)) 5) (carried EncIpv6Src (exactly 16 (λ _. part-of b) (now (b .value))))
-    (cond (eqb (type-of (b .word)) 6) (carried EncIpv6Dst (exactly 16 (λ _. part-of b) (now (b .value))))
-    (cond (eqb (type-of (b .word)) 7) (carried EncKeyId (exactly 4 (be 0 4) (now (b .value))))
-    (cond (eqb (type-of (b .word)) 9) (carried EncDstPort (exactly 2 (be 0 2) (now (b .value))))
-    (cond (eqb (type-of (b .word)) 10) (carried (λ n. NoCsum (not (eqb n 0))) (exactly 1 (le 0 1) (now (b .value))))
-    (cond (eqb (type-of (b .word)) 12) (carried EncTos (exactly 1 (le 0 1) (now (b .value))))
-    (cond (eqb (type-of (b .word)) 13) (carried EncTtl (exactly 1 (le 0 1) (now (b .value))))
+-- by its type
+abbrev pub tunnel-key-by : (type : ℕ) → NlaBuffer → Result TcActionTunnelKeyOption Lack
+tunnel-key-by t b =
+    cond (eqb t 1) (record-in times of-times Tm (now (b .value)))
+    (cond (eqb t 2) (record-in tunnel-key of-tunnel-key Parms (now (b .value)))
+    (cond (eqb t 3) (carried EncIpv4Src (exactly 4 address (now (b .value))))
+    (cond (eqb t 4) (carried EncIpv4Dst (exactly 4 address (now (b .value))))
+    (cond (eqb t 5) (carried EncIpv6Src (exactly 16 (λ _. part-of b) (now (b .value))))
+    (cond (eqb t 6) (carried EncIpv6Dst (exactly 16 (λ _. part-of b) (now (b .value))))
+    (cond (eqb t 7) (carried EncKeyId (exactly 4 (be 0 4) (now (b .value))))
+    (cond (eqb t 9) (carried EncDstPort (exactly 2 (be 0 2) (now (b .value))))
+    (cond (eqb t 10) (carried (λ n. NoCsum (not (eqb n 0))) (exactly 1 (le 0 1) (now (b .value))))
+    (cond (eqb t 12) (carried EncTos (exactly 1 (le 0 1) (now (b .value))))
+    (cond (eqb t 13) (carried EncTtl (exactly 1 (le 0 1) (now (b .value))))
     (Ok (Other (record { word = b .word; value = b .value })))))))))))))
+
+abbrev pub tunnel-key-option : NlaBuffer → Result TcActionTunnelKeyOption Lack
+tunnel-key-option b = tunnel-key-by (type-of (b .word)) b
 
 abbrev pub tunnel-key-word : TcActionTunnelKeyOption → ℕ
 tunnel-key-word (Tm x) = 1
