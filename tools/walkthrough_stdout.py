@@ -87,6 +87,40 @@ def show(title, data):
     print()
 
 
+OUTCOMES = {-1: "Unspec", 0: "Ok", 1: "Reclassify", 2: "Shot", 3: "Pipe", 4: "Stolen", 5: "Queued", 6: "Repeat", 7: "Redirect", 8: "Trap"}
+MIRRORS = {1: "EgressRedir", 2: "EgressMirror", 3: "IngressRedir", 4: "IngressMirror"}
+
+
+def judgement(kind, at, word, payload):
+    """One option under the shipped book; the sample has only a mirror record."""
+    said = f'place {at}, word {word:04X}, {len(payload)} bytes under "{kind}": '
+    if kind != "mirred" or word & 0x3FFF != 2:
+        raise NotImplementedError
+    if len(payload) < 28:
+        yield said + "refused by number 13, 28 bytes are wanted"
+        return
+    yield said + "written as word 0002 with 28 bytes"
+    index, capab, action, refcnt, bindcnt, eaction, interface = struct.unpack("<IIiiiiI", payload[:28])
+    yield f"  index {index}, capab {capab}, outcome {OUTCOMES[action]} ({action}), refcnt {refcnt}, bindcnt {bindcnt}"
+    yield f"  mirror action {MIRRORS[eaction]} ({eaction}), interface {interface}"
+
+
+def judge(title, data):
+    print(title + ":")
+    for at, word, payload in walk(data, 0):
+        if word & 0x3FFF != 7:
+            continue
+        for action_at, _, action in walk(payload, at + 4):
+            attributes = list(walk(action, action_at + 4))
+            kind = next(p for _, w, p in attributes if w & 0x3FFF == 1).removesuffix(b"\0").decode()
+            for options_at, w, options in attributes:
+                if w & 0x3FFF == 2:
+                    for option in walk(options, options_at + 4):
+                        for line in judgement(kind, *option):
+                            print("  " + line)
+    print()
+
+
 def main():
     with_zero, without_zero = entry(b"mirred\0"), entry(b"mirred")
     print("A heat meter's mirror entry in two spellings: its kind text with and without a zero at the end.\n")
@@ -98,6 +132,8 @@ def main():
             print("- " + one)
             print("+ " + other)
     print()
+    judge("The shipped book on the action option of the first", with_zero)
+    judge("And of the second", without_zero)
     print('Both kinds are the text "mirred". Attributes written as they stand keep the two spellings apart.\n')
     show("A copy with its last byte cut off", with_zero[:-1])
 

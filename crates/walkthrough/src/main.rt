@@ -1,10 +1,15 @@
 // Walks a sample mirror entry in two spellings, writes each again, and says what differs.
+mod judging;
 mod listing;
 mod rewriting;
 mod sample;
 
+use judging::judgements;
 use listing::listing;
+use model::fault::Layer;
 use model::words::CauseDisplay;
+use netlink::walker::NlasIterator;
+use netlink::walker::walking::NlasIteratorIterator;
 use rewriting::Unwritten;
 use rewriting::rewritten;
 use std::io;
@@ -53,6 +58,21 @@ fn compare(rt: &LibcRuntime, first: &[u8], second: &[u8]) -> io::Result<()> {
     println!(rt, "")
 }
 
+/// Shows what the shipped book says of each action option of a filter.
+fn judge(rt: &LibcRuntime, title: &str, filter: &[u8]) -> io::Result<()> {
+    println!(rt, "{title}:")?;
+    for found in NlasIterator::new(filter, Layer::FilterOption) {
+        if let Ok(nla) = found {
+            if nla.kind() == 7 {
+                for line in judgements(rt.alloc(), &nla)?.iter() {
+                    println!(rt, "  {line}")?;
+                }
+            }
+        }
+    }
+    println!(rt, "")
+}
+
 fn main(rt: LibcRuntime) -> io::Result<()> {
     println!(
         rt,
@@ -64,6 +84,12 @@ fn main(rt: LibcRuntime) -> io::Result<()> {
     show(&rt, "With the zero", with_zero.as_slice())?;
     show(&rt, "Without the zero", without_zero.as_slice())?;
     compare(&rt, with_zero.as_slice(), without_zero.as_slice())?;
+    judge(
+        &rt,
+        "The shipped book on the action option of the first",
+        with_zero.as_slice(),
+    )?;
+    judge(&rt, "And of the second", without_zero.as_slice())?;
     println!(
         rt,
         "Both kinds are the text \"mirred\". Attributes written as they stand keep the two spellings apart."
