@@ -33,10 +33,10 @@ module _ (bs : Bytes) (o : Octets bs) where
   signed-back i h = ap (bytes-of 4) (signs 4 (le i 4 bs) (ltb (le i 4 bs) (2 ^ 31)) (le-lt i 4 bs o)) ∙ le-back i 4 h
 
   -- two parts that follow one another
-  joined : (i a b : ℕ) → part i a bs ++ part (i + a) b bs ≡ part i (a + b) bs
+  pub joined : (i a b : ℕ) → part i a bs ++ part (i + a) b bs ≡ part i (a + b) bs
   joined i a b = ap (λ (r : Bytes). part i a bs ++ take b r) (sym (drop-drop a i bs)) ∙ sym (take-add a b (drop i bs))
 
-  then : (i a b : ℕ) {x y : Bytes} → x ≡ part i a bs → y ≡ part (i + a) b bs → x ++ y ≡ part i (a + b) bs
+  pub then : (i a b : ℕ) {x y : Bytes} → x ≡ part i a bs → y ≡ part (i + a) b bs → x ++ y ≡ part i (a + b) bs
   then i a b e f = ap₂ (λ (x y : Bytes). x ++ y) e f ∙ joined i a b
 
   generic-back : 20 ≤ length bs → generic .encode (generic .decode bs) ≡ take 20 bs

@@ -2,3 +2,5 @@ pub mod Parts
 pub mod Written
 pub mod Same
 pub mod Mirrors
+pub mod Keys
+pub mod SelectorParts

@@ -1,7 +1,7 @@
 -- Numbers at a place in bytes, byte by byte. Assumes nothing.
-use mathlib.Core.Path.{_≡_, refl, sym, ap, _∙_}
-use mathlib.Core.List.{List, [], _∷_, _++_, reverse}
-use Prim.Native.Nat.{ℕ, zero, suc, _+_, _-_, _*_, _<_, _≤_}
+use mathlib.Core.Path.{_≡_, sym, ap, _∙_}
+use mathlib.Core.List.{[], _∷_, reverse}
+use Prim.Native.Nat.{ℕ, suc, _+_, _-_, _*_, _<_, _≤_}
 use native.Mathlib.Omega.{arith}
 use lib.ListN.{length, getD, take, drop, length-drop}
 use Rattle.std.proofs.shelf.Lists.{drop-more, drop-drop}
@@ -10,6 +10,9 @@ use Rattle.model.specs.Numbers.{Bytes, number, part, le, be}
 -- one byte more
 pub part-more : (i n : ℕ) (bs : Bytes) → i < length bs → part i (suc n) bs ≡ getD bs i 0 ∷ part (i + 1) n bs
 part-more i n bs h = ap (take (suc n)) (drop-more bs i 0 h)
+
+pub part-two : (i : ℕ) (bs : Bytes) → i + 2 ≤ length bs → part i 2 bs ≡ getD bs i 0 ∷ getD bs (i + 1) 0 ∷ []
+part-two i bs h = part-more i 1 bs (omega arith) ∙ ap (λ (r : Bytes). getD bs i 0 ∷ r) (part-more (i + 1) 0 bs (omega arith))
 
 pub part-four : (i : ℕ) (bs : Bytes) → i + 4 ≤ length bs → part i 4 bs ≡ getD bs i 0 ∷ getD bs (i + 1) 0 ∷ getD bs (i + 2) 0 ∷ getD bs (i + 3) 0 ∷ []
 part-four i bs h =
@@ -20,6 +23,21 @@ part-four i bs h =
     (part-more (i + 1) 2 bs (omega arith) ∙ ap (λ (r : Bytes). getD bs (i + 1) 0 ∷ r)
     (ap (λ (j : ℕ). part j 2 bs) two ∙ part-more (i + 2) 1 bs (omega arith) ∙ ap (λ (r : Bytes). getD bs (i + 2) 0 ∷ r)
     (ap (λ (j : ℕ). part j 1 bs) three ∙ part-more (i + 3) 0 bs (omega arith))))
+
+pub le-one : (i : ℕ) (bs : Bytes) → i < length bs → getD bs i 0 ≡ le i 1 bs
+le-one i bs h =
+    let e : getD bs i 0 ≡ number (getD bs i 0 ∷ []) = omega arith in
+    e ∙ ap number (sym (part-more i 0 bs h))
+
+pub le-two : (i : ℕ) (bs : Bytes) → i + 2 ≤ length bs → getD bs i 0 + getD bs (i + 1) 0 * 256 ≡ le i 2 bs
+le-two i bs h =
+    let e : getD bs i 0 + getD bs (i + 1) 0 * 256 ≡ number (getD bs i 0 ∷ getD bs (i + 1) 0 ∷ []) = omega arith in
+    e ∙ ap number (sym (part-two i bs h))
+
+pub be-two : (i : ℕ) (bs : Bytes) → i + 2 ≤ length bs → getD bs i 0 * 256 + getD bs (i + 1) 0 ≡ be i 2 bs
+be-two i bs h =
+    let e : getD bs i 0 * 256 + getD bs (i + 1) 0 ≡ number (getD bs (i + 1) 0 ∷ getD bs i 0 ∷ []) = omega arith in
+    e ∙ ap (λ (x : Bytes). number (reverse x)) (sym (part-two i bs h))
 
 pub le-four : (i : ℕ) (bs : Bytes) → i + 4 ≤ length bs → getD bs i 0 + getD bs (i + 1) 0 * 256 + getD bs (i + 2) 0 * 65536 + getD bs (i + 3) 0 * 16777216 ≡ le i 4 bs
 le-four i bs h =

@@ -1,17 +1,19 @@
 -- Parts written one after another into a buffer that they fill. Assumes nothing.
 use mathlib.Core.Path.{_≡_, refl, sym, ap, _∙_}
-use mathlib.Core.List.{List, [], _∷_, _++_}
-use mathlib.Core.Bool.{cond}
+use mathlib.Core.List.{[], _++_}
+use mathlib.Core.Bool.{cond, false}
 use Prim.Native.Nat.{ℕ, _+_, _-_, _≤_}
 use native.Mathlib.Omega.{arith}
 use native.Mathlib.Nat.{zero-add}
-use lib.Dec.{eqb}
-use lib.ListN.{length, take, drop}
-use Rattle.std.proofs.shelf.Lists.{append-nil, append-assoc, length-append, drop-all}
-use Rattle.std.proofs.shelf.Tests.{cond-true, eq-eqb}
+use lib.Dec.{eqb, ltb}
+use lib.ListN.{length, drop}
+use Rattle.std.specs.declared.result.Result.{Result}
+use Rattle.std.specs.declared.result.Result.the-variants.{Ok, Err}
+use Rattle.std.proofs.shelf.Lists.{append-nil, drop-all}
+use Rattle.std.proofs.shelf.Tests.{cond-true, cond-false, eq-eqb, le-ltb}
 use Rattle.model.specs.Numbers.{Bytes}
 use Rattle.model.specs.Page.{over}
-use Rattle.netlink.specs.Emission.{over-if-it-fits}
+use Rattle.netlink.specs.Emission.{over-if-it-fits, emission, buffer-after}
 use Rattle.netlink.proofs.Overwrites.{fitted, over-over, length-over}
 
 -- what has been written so far stands at the front
@@ -40,3 +42,15 @@ filled {old} {now} {written} s e =
 -- the clause of a write that was made
 pub written-whole : (n : ℕ) (old now x : Bytes) → length old ≡ n → now ≡ x → now ≡ cond (eqb (length old) n) x old
 written-whole n old now x e w = w ∙ sym (cond-true (eqb (length old) n) x old (eq-eqb (length old) n e))
+
+-- the clauses of a form that was written at the front of a longer buffer
+module _ (old now form : Bytes) (room : length form ≤ length old) where
+  fits : ltb (length old) (length form) ≡ false
+  fits = le-ltb (length old) (length form) room
+
+  pub written-front : So-far old now form → now ≡ buffer-after old (Ok form)
+  written-front s =
+      s .front ∙ ap (λ (n : ℕ). form ++ drop n old) (zero-add (length form)) ∙ sym (cond-false (ltb (length old) (length form)) old (form ++ drop (length form) old) fits)
+
+  pub written-length : (n : ℕ) → n ≡ length form → Ok n ≡ emission (length old) (Ok form)
+  written-length n e = ap {B = Result ℕ ℕ} Ok e ∙ sym (cond-false (ltb (length old) (length form)) (Err 16) (Ok (length form)) fits)

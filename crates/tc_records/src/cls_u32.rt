@@ -1,4 +1,4 @@
-// The keys and the selector of a u32 filter.
+// The keys of a u32 filter.
 ghost use Rattle.model.specs.Records.{key};
 ghost use Rattle.tc_records.specs.Layouts.{as-key, of-key};
 use crate::fields::i32_at;

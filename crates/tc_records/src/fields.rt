@@ -4,6 +4,30 @@ ghost use Prim.Native.Nat.{_+_, _≤_};
 ghost use lib.ListN.{length};
 ghost use Rattle.model.specs.Numbers.{le, be, signed, le-bytes, be-bytes, signed-bytes};
 
+/// Two bytes, little-endian.
+pub(crate) fn u16_at(bytes: &[u8], at: usize) -> u16
+    requires { ⌜ at + 2 ≤ length (now bytes) ⌝ }
+    ensures { λ r. ⌜ r ≡ le at 2 (now (bytes .entry)) ⌝ }
+{
+    u16::from_le_bytes([bytes[at], bytes[at + 1]])
+}
+
+/// Two bytes, big-endian.
+pub(crate) fn u16_be_at(bytes: &[u8], at: usize) -> u16
+    requires { ⌜ at + 2 ≤ length (now bytes) ⌝ }
+    ensures { λ r. ⌜ r ≡ be at 2 (now (bytes .entry)) ⌝ }
+{
+    u16::from_be_bytes([bytes[at], bytes[at + 1]])
+}
+
+/// Two bytes, little-endian and signed.
+pub(crate) fn i16_at(bytes: &[u8], at: usize) -> i16
+    requires { ⌜ at + 2 ≤ length (now bytes) ⌝ }
+    ensures { λ r. ⌜ r ≡ signed at 2 (now (bytes .entry)) ⌝ }
+{
+    u16_at(bytes, at).cast_signed()
+}
+
 /// Four bytes, little-endian.
 pub(crate) fn u32_at(bytes: &[u8], at: usize) -> u32
     requires { ⌜ at + 4 ≤ length (now bytes) ⌝ }
@@ -34,6 +58,27 @@ pub(crate) fn u64_at(bytes: &[u8], at: usize) -> u64
     ensures { λ r. ⌜ r ≡ le at 8 (now (bytes .entry)) ⌝ }
 {
     u64::from(u32_at(bytes, at)) + u64::from(u32_at(bytes, at + 4)) * 0x1_0000_0000
+}
+
+/// The bytes of a short number, little-endian.
+pub(crate) fn u16_bytes(value: u16) -> [u8; 2]
+    ensures { λ r. ⌜ r ≡ le-bytes 2 value ⌝ }
+{
+    value.to_le_bytes()
+}
+
+/// The bytes of a short number, big-endian.
+pub(crate) fn u16_be_bytes(value: u16) -> [u8; 2]
+    ensures { λ r. ⌜ r ≡ be-bytes 2 value ⌝ }
+{
+    value.to_be_bytes()
+}
+
+/// The bytes of a short signed number, little-endian.
+pub(crate) fn i16_bytes(value: i16) -> [u8; 2]
+    ensures { λ r. ⌜ r ≡ signed-bytes 2 value ⌝ }
+{
+    value.to_le_bytes()
 }
 
 /// The bytes of a number, little-endian.
