@@ -121,6 +121,25 @@ def judge(title, data):
     print()
 
 
+def fields(title, data):
+    print(title + ":")
+    for _, word, payload in walk(data, 0):
+        if word == 1:
+            minor, major = struct.unpack("<HH", payload)
+            print(f"  class {major:x}:{minor:x}")
+        if word == 5:
+            flags, offshift, nkeys, _ = payload[:4]
+            offmask, = struct.unpack(">H", payload[4:6])
+            off, offoff, hoff = struct.unpack("<Hhh", payload[6:12])
+            hmask, = struct.unpack(">I", payload[12:16])
+            print(f"  selector: flags {flags:02X}, offshift {offshift}, offmask {offmask:04X}, off {off}, offoff {offoff}, hoff {hoff}, hmask {hmask:08X}, keys {nkeys}")
+            for i in range(nkeys):
+                mask, val = struct.unpack_from(">II", payload, 16 + 16 * i)
+                off, offmask = struct.unpack_from("<ii", payload, 24 + 16 * i)
+                print(f"    key {i}: mask {mask:08X}, val {val:08X}, off {off}, offmask {offmask}")
+    print()
+
+
 def main():
     with_zero, without_zero = entry(b"mirred\0"), entry(b"mirred")
     print("A heat meter's mirror entry in two spellings: its kind text with and without a zero at the end.\n")
@@ -132,6 +151,7 @@ def main():
             print("- " + one)
             print("+ " + other)
     print()
+    fields("Class and selector of both", with_zero)
     judge("The shipped book on the action option of the first", with_zero)
     judge("And of the second", without_zero)
     print('Both kinds are the text "mirred". Attributes written as they stand keep the two spellings apart.\n')

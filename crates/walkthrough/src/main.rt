@@ -1,9 +1,11 @@
 // Walks a sample mirror entry in two spellings, writes each again, and says what differs.
+mod fields;
 mod judging;
 mod listing;
 mod rewriting;
 mod sample;
 
+use fields::field_lines;
 use judging::judgements;
 use listing::listing;
 use model::fault::Layer;
@@ -58,6 +60,19 @@ fn compare(rt: &LibcRuntime, first: &[u8], second: &[u8]) -> io::Result<()> {
     println!(rt, "")
 }
 
+/// Shows the class and the selector of a filter by their fields.
+fn show_fields(rt: &LibcRuntime, title: &str, filter: &[u8]) -> io::Result<()> {
+    println!(rt, "{title}:")?;
+    for found in NlasIterator::new(filter, Layer::FilterOption) {
+        if let Ok(nla) = found {
+            for line in field_lines(rt.alloc(), &nla)?.iter() {
+                println!(rt, "  {line}")?;
+            }
+        }
+    }
+    println!(rt, "")
+}
+
 /// Shows what the shipped book says of each action option of a filter.
 fn judge(rt: &LibcRuntime, title: &str, filter: &[u8]) -> io::Result<()> {
     println!(rt, "{title}:")?;
@@ -84,6 +99,7 @@ fn main(rt: LibcRuntime) -> io::Result<()> {
     show(&rt, "With the zero", with_zero.as_slice())?;
     show(&rt, "Without the zero", without_zero.as_slice())?;
     compare(&rt, with_zero.as_slice(), without_zero.as_slice())?;
+    show_fields(&rt, "Class and selector of both", with_zero.as_slice())?;
     judge(
         &rt,
         "The shipped book on the action option of the first",
