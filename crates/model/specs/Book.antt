@@ -1,4 +1,4 @@
--- A book judges an action option. Assumes nothing.
+-- A book judges action options: it says what is written of an option, or refuses it. Assumes nothing.
 use mathlib.Core.Path.{_≡_}
 use mathlib.Core.List.{List, [], _∷_}
 use mathlib.Core.Bool.{Bool, true, false, cond, _&&_}

@@ -12,12 +12,13 @@ use Rattle.model.specs.Attributes.{type-of, rounded, attribute, head, encode}
 use Rattle.model.specs.Book.{Meaning}
 use Rattle.model.specs.Reading.{read-option, read-attribute, read-action}
 
--- the memory's length at the making, the used length, and the places of the open heads, the innermost first
+-- A page is a filter in the making. It has the memory's length at the making, the used length, and the places of the heads of the nests that are open, the innermost first.
 pub record Page : Type 0 where
   pub size : ℕ
   pub used : ℕ
   pub heads : List ℕ
 
+-- put writes one attribute; open-nest begins a nest, close ends the innermost nest and keeps it, strike ends it and removes it
 pub data Call : Type 0 where
   put : (word : ℕ) → Bytes → Call
   open-nest : (type : ℕ) → Call
