@@ -16,6 +16,7 @@ use Rattle.model.specs.Faults.{Read, needing}
 use Rattle.model.specs.Records.{Key, key}
 use Rattle.model.specs.Selector.{Selector, wanted, keys-in, decode, encode-keys, encode}
 use Rattle.model.specs.Reading.{read-selector}
+use Rattle.model.specs.Laws.{Selector-reads-again}
 use Rattle.model.proofs.Numbers.{number-bytes, number-lt}
 use Rattle.model.proofs.Each.{octets-take, octets-drop, passed, ok-same}
 
@@ -153,3 +154,6 @@ selector-read p x s o q =
     let g = passed (ltb (length x) 16) (needing 13 p 1 16) (cond (ltb (length x) (wanted x)) (Err (needing 13 p 1 (wanted x))) (Ok (decode x))) q in
     let f = passed (ltb (length x) (wanted x)) (needing 13 p 1 (wanted x)) (Ok (decode x)) (g .1) in
     subst KeptSelector (ok-same (f .1)) (selector-kept x o)
+
+pub selector-reads-again : Selector-reads-again
+selector-reads-again p q x s o e = read-selector-again q s (selector-read p x s o e)

@@ -10,7 +10,8 @@ use Rattle.model.specs.Faults.{fault}
 use Rattle.model.specs.Attributes.{rounded, Attribute, Writable, encode-all}
 use Rattle.model.specs.Walk.{done, bad, item, walk, found}
 use Rattle.model.specs.Book.{Meaning, BookLaws}
-use Rattle.model.specs.Reading.{read-filter, Reading}
+use Rattle.model.specs.Selector.{Selector, encode}
+use Rattle.model.specs.Reading.{read-selector, read-filter, Reading}
 use Rattle.model.specs.Counts.{counts}
 use Rattle.model.specs.Writing.{written, write-out}
 use Rattle.model.specs.Page.{State, level}
@@ -33,6 +34,10 @@ pub record Walk-goes-by-heads : Type 0 where
 -- the walk over attributes that are written finds them
 abbrev pub Walk-of-encode : Type 0
 Walk-of-encode = (p : ℕ) (l : List Attribute) → All Writable l → walk p (encode-all l) ≡ found p l
+
+-- a selector that was read is read again from what is written, wherever it stands
+abbrev pub Selector-reads-again : Type 0
+Selector-reads-again = (p q : ℕ) (x : Bytes) (s : Selector) → Octets x → read-selector p x ≡ Ok s → read-selector q (encode s) ≡ Ok s
 
 -- what is written out within 65,531 bytes reads as before
 abbrev pub Round-trip : Type 0

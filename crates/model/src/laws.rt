@@ -2,7 +2,7 @@
 ghost use Rattle.model.specs.Book.{Book-calls-agree};
 ghost use Rattle.model.specs.Examples.{Examples-hold};
 ghost use Rattle.model.specs.Faults.{Each-cause-has-its-number};
-ghost use Rattle.model.specs.Laws.{Walk-goes-by-heads, Walk-of-encode, Round-trip, Canonical, Page-is-its-card, Every-filter-is-a-page, Order-is-free};
+ghost use Rattle.model.specs.Laws.{Selector-reads-again, Walk-goes-by-heads, Walk-of-encode, Round-trip, Canonical, Page-is-its-card, Every-filter-is-a-page, Order-is-free};
 ghost use Rattle.model.specs.Outcomes.{Names-tell-numbers, Outcome-is-told-by-the-head};
 ghost use Rattle.model.specs.Records.{Records-lawful};
 ghost use Rattle.model.specs.Refusals.{Writing-out-answers-the-first-cause, Page-calls-answer-the-first-cause};
@@ -56,6 +56,13 @@ pub fn kind_text_is_utf8() -> u8
 /// Writing a record that was read gives back the first bytes of its payload, for all six records.
 pub fn records_keep_their_law() -> u8
     ensures { λ _. ⌜ Records-lawful ⌝ }
+{
+    0
+}
+
+/// A selector that was read is read again from what is written.
+pub fn selector_reads_again() -> u8
+    ensures { λ _. ⌜ Selector-reads-again ⌝ }
 {
     0
 }

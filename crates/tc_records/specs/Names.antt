@@ -1,4 +1,7 @@
 -- The names of the code are those of the model. Assumes nothing.
+use mathlib.Core.Path.{_≡_}
+use lib.IntN.{ℤ}
+use Rattle.model.specs.Outcomes.{outcome, outcome-number, mirror-action, mirror-action-number}
 use Rattle.model.specs.Outcomes.{Outcome, unspec, ok, reclassify, shot, pipe, stolen, queued, repeat, redirect, trap, MirrorAction, egress-redir, egress-mirror, ingress-redir, ingress-mirror}
 use Rattle.tc_records.specs.declared.outcome.TcActionType.{TcActionType}
 use Rattle.tc_records.specs.declared.outcome.TcActionType.the-variants.{Unspec, Ok, Reclassify, Shot, Pipe, Stolen, Queued, Repeat, Redirect, Trap}
@@ -44,3 +47,8 @@ of-mirror-action egress-mirror = EgressMirror
 of-mirror-action ingress-redir = IngressRedir
 of-mirror-action ingress-mirror = IngressMirror
 of-mirror-action (MirrorAction.other z) = TcMirrorActionType.Other z
+
+-- the number of the name that a number has is that number
+abbrev pub Numbers-kept : Type 0
+Numbers-kept =
+    ((z : ℤ) → outcome-number (as-outcome (of-outcome (outcome z))) ≡ z) × ((z : ℤ) → mirror-action-number (as-mirror-action (of-mirror-action (mirror-action z))) ≡ z)

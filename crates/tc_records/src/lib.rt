@@ -5,6 +5,7 @@ mod fields;
 pub mod header;
 pub mod mirror;
 pub mod mirror_action;
+pub mod names;
 pub mod nat;
 pub mod nat_flag;
 pub mod outcome;
