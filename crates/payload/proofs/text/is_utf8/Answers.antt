@@ -10,7 +10,7 @@ pub returns-then-n-eq0 : goal.returns-then-n-eq0
 returns-then-n-eq0 c =
     let l = c.loop-b in
     let e : false ≡ is_text c.args.text.now =
-    (sym (start-bad l.from l.to c.args.text.now l.b-index c.loop-b-test.true l.left c.if-left-eq0.true (sym c.length-by-n.ensures ∙ c.if-n-eq0.true)) ∙ l.invariant) in
+    (sym (start-bad l.from l.to c.args.text.now l.b-index c.loop-b-test.true l.left c.if-left-eq0.true (sym c.length_by-n.ensures ∙ c.if-n-eq0.true)) ∙ l.invariant) in
     record { test = e; decides = decided false c.args.text.now e }
 
 pub returns-then-b-from : goal.returns-then-b-from
@@ -29,8 +29,8 @@ loop-b-preserved c =
     let more = drop (l.b-index + 1) c.args.text.now in
     elim c.if-left-eq0.branch [
       | then-left-eq0+else-n-eq0 w ↦
-          same_test more _ _ _ _ _ _ (w.left-is ∙ ap (λ (n : ℕ). n - 1) w.length-by-n.ensures) (w.from-is ∙ w.lowest-second-from.ensures) (w.to-is ∙ w.highest-second-to.ensures)
-          ∙ (sym (start_good l.from l.to c.args.text.now l.b-index c.loop-b-test.true l.left w.if-left-eq0.true (λ e. w.if-n-eq0.false (w.length-by-n.ensures ∙ e))) ∙ l.invariant)
+          same_test more _ _ _ _ _ _ (w.left-is ∙ ap (λ (n : ℕ). n - 1) w.length_by-n.ensures) (w.from-is ∙ w.lowest_second-from.ensures) (w.to-is ∙ w.highest_second-to.ensures)
+          ∙ (sym (start_good l.from l.to c.args.text.now l.b-index c.loop-b-test.true l.left w.if-left-eq0.true (λ e. w.if-n-eq0.false (w.length_by-n.ensures ∙ e))) ∙ l.invariant)
       | else-left-eq0+else-b-from+else-to-b w ↦
           same_test more _ _ _ _ _ _ w.left-is w.from-is w.to-is
           ∙ (sym (next_good l.from l.to c.args.text.now l.b-index c.loop-b-test.true l.left w.if-left-eq0.false w.if-b-from.false w.if-to-b.false) ∙ l.invariant)

@@ -8,12 +8,12 @@ returns-in-0 c =
     let e : get_or c.args.payload.now (length c.args.payload.now - 1) 0 ≡ 0 = search rules in
     last_zero c.args.payload.now h e
 
-pub returns-in-default : goal.returns-in-default
-returns-in-default c =
+pub returns-in_default : goal.returns-in_default
+returns-in_default c =
     let none : length c.args.payload.now < 1 = search rules in
     no_last_zero c.args.payload.now (λ h e. omega arith)
 
-pub returns-in-default·2 : goal.returns-in-default·2
-returns-in-default·2 c =
+pub returns-in_default-2 : goal.returns-in_default-2
+returns-in_default-2 c =
     let other : get_or c.args.payload.now (length c.args.payload.now - 1) 0 ≡ 0 → ⊥ = search rules in
     no_last_zero c.args.payload.now (λ h e. other e)
