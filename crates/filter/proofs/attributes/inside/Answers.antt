@@ -11,7 +11,7 @@ returns c =
     record {
       reads = λ m k.
           ap (λ (i : Inside). read_in_attribute m k i) c.attribute_content.ensures
-          ∙ attribute_reads_inside m k b.place b.word b.value.now c.parse.result c.context.result (c.parse.ensures.reads m k) c.context.ensures c.in-ok-attribute.attribute c.in-ok-attribute.was;
+          ∙ attribute_reads_inside m k b.place b.word b.value.now c.parse.result c.context.result (c.parse.ensures.reads m k) c.context.ensures c.in_ok-attribute.attribute c.in_ok-attribute.was;
       held = subst (HeldBy b) (sym c.attribute_content.ensures)
-          (attribute-holds-part b c.parse.result c.context.result b.place c.parse.ensures.part c.context.ensures c.in-ok-attribute.attribute c.in-ok-attribute.was);
+          (attribute-holds-part b c.parse.result c.context.result b.place c.parse.ensures.part c.context.ensures c.in_ok-attribute.attribute c.in_ok-attribute.was);
     }

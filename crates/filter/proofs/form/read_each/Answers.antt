@@ -11,13 +11,13 @@ use Rattle.filter.proofs.form.read_each.Goals as goal
 
 pub read-requires : goal.read-requires
 read-requires g c =
-    let f = found-one c.loop-nla.nla-iterator c.next.new.self c.in-Some.nla c.in-ok-nla.nla c.in-ok-nla.was c.in-Some.ensures.steps in
+    let f = found-one c.loop-nla.nla-iterator c.next.new.self c.in-Some.nla c.in_ok-nla.nla c.in_ok-nla.was c.in-Some.ensures.steps in
     omega (arith, f.1, c.loop-nla.invariant.3, c.requires)
 
-pub returns-in-err-nla : goal.returns-in-err-nla
-returns-in-err-nla g c =
-    let f = c.in-err-nla.field-0.0 in
-    let step = broke c.loop-nla.nla-iterator c.next.new.self c.in-Some.nla f c.in-err-nla.was c.in-Some.ensures.steps in
+pub returns-in_err-nla : goal.returns-in_err-nla
+returns-in_err-nla g c =
+    let f = c.in_err-nla.field-0.0 in
+    let step = broke c.loop-nla.nla-iterator c.next.new.self c.in-Some.nla f c.in_err-nla.was c.in-Some.ensures.steps in
     let p = err_from_is_err_and c.from-residual.result c.from-residual.ensures.1 in
     record {
       value = ap answered p.1 ∙ ap (λ (h : Fault). Err (numbers h)) p.2
@@ -26,27 +26,27 @@ returns-in-err-nla g c =
       bounds = IfOk-from_err c.from-residual.result _ c.from-residual.ensures.0;
     }
 
-pub returns-in-err-read : goal.returns-in-err-read
-returns-in-err-read g c =
-    let a = c.in-ok-nla.nla in
-    let f = c.in-err-read.field-0.0 in
-    let step = found-one c.loop-nla.nla-iterator c.next.new.self c.in-Some.nla a c.in-ok-nla.was c.in-Some.ensures.steps in
-    let p = err_from_is_err_and c.from-residual-in-err-read.result c.from-residual-in-err-read.ensures.1 in
+pub returns-in_err-read : goal.returns-in_err-read
+returns-in_err-read g c =
+    let a = c.in_ok-nla.nla in
+    let f = c.in_err-read.field-0.0 in
+    let step = found-one c.loop-nla.nla-iterator c.next.new.self c.in-Some.nla a c.in_ok-nla.was c.in-Some.ensures.steps in
+    let p = err_from_is_err_and c.from-residual-in_err-read.result c.from-residual-in_err-read.ensures.1 in
     let reads = g.F.Form.reads c.args.form.now in
     let layer = layer_number c.args.walk.layer in
-    let h = sym c.read.ensures.value ∙ ap answered c.in-err-read.was in
+    let h = sym c.read.ensures.value ∙ ap answered c.in_err-read.was in
     record {
       value = ap answered p.1 ∙ ap (λ (h : Fault). Err (numbers h)) p.2
           ∙ sym (tally-bad c.loop-nla.tally layer reads a.place a.word a.value.now (ahead c.next.new.self) (numbers f) h)
           ∙ ap (tally_behind c.loop-nla.tally layer reads) (sym step.0)
           ∙ c.loop-nla.invariant.2;
-      bounds = IfOk-from_err c.from-residual-in-err-read.result _ c.from-residual-in-err-read.ensures.0;
+      bounds = IfOk-from_err c.from-residual-in_err-read.result _ c.from-residual-in_err-read.ensures.0;
     }
 
 pub join-tally-requires : goal.join-tally-requires
 join-tally-requires g c =
-    let step = found-one c.loop-nla.nla-iterator c.next.new.self c.in-Some.nla c.in-ok-nla.nla c.in-ok-nla.was c.in-Some.ensures.steps in
-    let b = c.in-ok-read.ensures.bounds in
+    let step = found-one c.loop-nla.nla-iterator c.next.new.self c.in-Some.nla c.in_ok-nla.nla c.in_ok-nla.was c.in-Some.ensures.steps in
+    let b = c.in_ok-read.ensures.bounds in
     let short = c.args.walk.inside in
     let inv = c.loop-nla.invariant in
     record {
@@ -58,15 +58,15 @@ join-tally-requires g c =
 
 pub loop-nla-preserved : goal.loop-nla-preserved
 loop-nla-preserved g c =
-    let a = c.in-ok-nla.nla in
-    let x = c.in-ok-read.field-0 in
-    let step = found-one c.loop-nla.nla-iterator c.next.new.self c.in-Some.nla a c.in-ok-nla.was c.in-Some.ensures.steps in
+    let a = c.in_ok-nla.nla in
+    let x = c.in_ok-read.field-0 in
+    let step = found-one c.loop-nla.nla-iterator c.next.new.self c.in-Some.nla a c.in_ok-nla.was c.in-Some.ensures.steps in
     let reads = g.F.Form.reads c.args.form.now in
     let layer = layer_number c.args.walk.layer in
     let inv = c.loop-nla.invariant in
-    let b = c.in-ok-read.ensures.bounds in
+    let b = c.in_ok-read.ensures.bounds in
     let j = c.join-tally.ensures in
-    let h = sym c.read.ensures.value ∙ ap answered c.in-ok-read.was in
+    let h = sym c.read.ensures.value ∙ ap answered c.in_ok-read.was in
     let rest = c.next.new.self.rest.now in (
       tt,
       tt,

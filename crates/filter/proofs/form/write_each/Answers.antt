@@ -15,7 +15,7 @@ use Rattle.filter.proofs.form.write_each.Goals as goal
 
 pub loop-nla-init : goal.loop-nla-init
 loop-nla-init g c =
-    let e = c.into-iter-nla-iterator.ensures.into-iter-gives in
+    let e = c.into_iter-nla-iterator.ensures.into_iter-gives in
     let layer = layer_number c.args.walk.layer in
     let reads = g.F.Form.reads c.args.form.now in (
       tt,
@@ -27,15 +27,15 @@ loop-nla-init g c =
       ap (λ (s : NlasIterator). s.layer) e,
     )
 
-pub returns-in-err-nla : goal.returns-in-err-nla
-returns-in-err-nla g c =
-    let f = broke c.loop-nla.nla-iterator c.next.new.self c.in-Some.nla c.in-err-nla.field-0.0 c.in-err-nla.was c.in-Some.ensures.steps in
+pub returns-in_err-nla : goal.returns-in_err-nla
+returns-in_err-nla g c =
+    let f = broke c.loop-nla.nla-iterator c.next.new.self c.in-Some.nla c.in_err-nla.field-0.0 c.in_err-nla.was c.in-Some.ensures.steps in
     absurd (subst (λ (w : Walked). RoomForRow (each (layer_number c.args.walk.layer) (g.F.Form.reads c.args.form.now) w) c.loop-nla.end (length c.loop-nla.output)) f.0 c.loop-nla.invariant.2)
 
 pub write-requires : goal.write-requires
 write-requires g c =
-    let a = c.in-ok-nla.nla in
-    let f = found-one c.loop-nla.nla-iterator c.next.new.self c.in-Some.nla a c.in-ok-nla.was c.in-Some.ensures.steps in
+    let a = c.in_ok-nla.nla in
+    let f = found-one c.loop-nla.nla-iterator c.next.new.self c.in-Some.nla a c.in_ok-nla.was c.in-Some.ensures.steps in
     let layer = layer_number c.args.walk.layer in
     let reads = g.F.Form.reads c.args.form.now in
     let room = subst (λ (w : Walked). RoomForRow (each layer reads w) c.loop-nla.end (length c.loop-nla.output)) f.0 c.loop-nla.invariant.2 in
@@ -44,17 +44,17 @@ write-requires g c =
       room = (step (reads a.place a.word a.value.now) (each layer reads (ahead c.next.new.self)) c.loop-nla.output c.loop-nla.end room).room;
     }
 
-pub returns-in-err-end : goal.returns-in-err-end
-returns-in-err-end g c =
+pub returns-in_err-end : goal.returns-in_err-end
+returns-in_err-end g c =
     let e = c.write.ensures.value in
-    let f = c.in-err-end.was in
+    let f = c.in_err-end.was in
     let z : ◌≡◌ {A = ℕ} 0 1 = cc in
     absurd (omega arith)
 
 pub loop-nla-preserved : goal.loop-nla-preserved
 loop-nla-preserved g c =
-    let a = c.in-ok-nla.nla in
-    let f = found-one c.loop-nla.nla-iterator c.next.new.self c.in-Some.nla a c.in-ok-nla.was c.in-Some.ensures.steps in
+    let a = c.in_ok-nla.nla in
+    let f = found-one c.loop-nla.nla-iterator c.next.new.self c.in-Some.nla a c.in_ok-nla.was c.in-Some.ensures.steps in
     let layer = layer_number c.args.walk.layer in
     let reads = g.F.Form.reads c.args.form.now in
     let inv = c.loop-nla.invariant in
@@ -62,15 +62,15 @@ loop-nla-preserved g c =
     let q = reads a.place a.word a.value.now in
     let k = each layer reads (ahead c.next.new.self) in
     let s = step q k c.loop-nla.output c.loop-nla.end room in
-    let was = c.in-ok-end.was in
+    let was = c.in_ok-end.was in
     let value = c.write.ensures.value in
-    let end : c.in-ok-end.end ≡ c.loop-nla.end + length (form_of q) = cc in
+    let end : c.in_ok-end.end ≡ c.loop-nla.end + length (form_of q) = cc in
     let out : c.write.new.output ≡ over c.loop-nla.output c.loop-nla.end (form_of q) = c.write.ensures.after in
     let size : length c.write.new.output ≡ length c.loop-nla.output = ap length out ∙ length_over c.loop-nla.output c.loop-nla.end (form_of q) s.fits in (
       tt,
       tt,
       subst (λ (n : ℕ). RoomForRow k n (length c.write.new.output)) (sym end) (subst (λ (n : ℕ). RoomForRow k (c.loop-nla.end + length (form_of q)) n) (sym size) s.rest),
-      ap (λ (b : Bytes). over b c.in-ok-end.end (row_form k)) out ∙ ap (λ (n : ℕ). over (over c.loop-nla.output c.loop-nla.end (form_of q)) n (row_form k)) end ∙ s.bytes
+      ap (λ (b : Bytes). over b c.in_ok-end.end (row_form k)) out ∙ ap (λ (n : ℕ). over (over c.loop-nla.output c.loop-nla.end (form_of q)) n (row_form k)) end ∙ s.bytes
           ∙ ap (λ (w : Walked). over c.loop-nla.output c.loop-nla.end (row_form (each layer reads w))) (sym f.0) ∙ inv.3,
       ap (λ (n : ℕ). n + length (row_form k)) end ∙ s.ends ∙ ap (λ (w : Walked). c.loop-nla.end + length (row_form (each layer reads w))) (sym f.0) ∙ inv.4,
       f.2 ∙ inv.5,

@@ -13,8 +13,8 @@ use Rattle.filter.specs.Writes.{RoomForRow, row_form, form_around}
 use Rattle.filter.proofs.RowWrites.{room_inside, room_size, over-before}
 use Rattle.filter.proofs.form.write_inside.Goals as goal
 
-pub write-each-requires : goal.write-each-requires
-write-each-requires g c =
+pub write_each-requires : goal.write_each-requires
+write_each-requires g c =
     let reads = g.F.Form.reads c.args.form.now in
     let b = c.args.nla.now in
     let n = length c.args.output.now in
@@ -35,16 +35,16 @@ returns g c =
     let k = each (layer_number c.args.layer) reads (walk (b.place + 4) b.value.now) in
     let same = ap (λ (l : Layer). each (layer_number l) reads (ahead c.nested.result)) c.nested.ensures.layer ∙ ap (each (layer_number c.args.layer) reads) (c.nested.ensures.walks (omega (arith, c.requires.inside))) in
     let room = room_size k at (length old) c.requires.room in
-    let was = c.in-ok-end.was in
-    let value = c.write-each.ensures.value ∙ ap {B = Result ℕ Fault} (λ (r : Read (List Summary)). Ok (at + 4 + length (row_form r))) same in
-    let end : c.in-ok-end.end ≡ at + 4 + length (row_form k) = cc in
-    let size : c.in-ok-end.end - at ≡ 4 + length (row_form k) = omega arith in
+    let was = c.in_ok-end.was in
+    let value = c.write_each.ensures.value ∙ ap {B = Result ℕ Fault} (λ (r : Read (List Summary)). Ok (at + 4 + length (row_form r))) same in
+    let end : c.in_ok-end.end ≡ at + 4 + length (row_form k) = cc in
+    let size : c.in_ok-end.end - at ≡ 4 + length (row_form k) = omega arith in
     let whole : at + 4 + length (row_form k) ≡ at + length (form_around c.args.word k) = omega arith in
     record {
       value = ap {B = Result ℕ Fault} Ok (end ∙ whole);
       after =
-          c.write-head.ensures
-          ∙ ap (λ (o : Bytes). over o at (head (c.in-ok-end.end - at) c.args.word)) (c.write-each.ensures.after ∙ ap (λ (r : Read (List Summary)). over old (at + 4) (row_form r)) same)
+          c.write_head.ensures
+          ∙ ap (λ (o : Bytes). over o at (head (c.in_ok-end.end - at) c.args.word)) (c.write_each.ensures.after ∙ ap (λ (r : Read (List Summary)). over old (at + 4) (row_form r)) same)
           ∙ ap (λ (i : ℕ). over (over old (at + 4) (row_form k)) at (head i c.args.word)) size
           ∙ over-before old at (head (4 + length (row_form k)) c.args.word) (row_form k) (at + 4) refl (omega (arith, room.1));
     }

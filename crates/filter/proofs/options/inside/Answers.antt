@@ -11,7 +11,7 @@ returns c =
     record {
       reads = λ m.
           ap (λ (i : Inside). read_in_option m i) c.option_content.ensures
-          ∙ option_reads_inside m b c.parse.result c.context.result (c.parse.ensures.reads m) c.parse.ensures.part c.context.ensures c.in-ok-option.option c.in-ok-option.was;
+          ∙ option_reads_inside m b c.parse.result c.context.result (c.parse.ensures.reads m) c.parse.ensures.part c.context.ensures c.in_ok-option.option c.in_ok-option.was;
       held = subst (HeldBy b) (sym c.option_content.ensures)
-          (option-holds-part b c.parse.result c.context.result c.parse.ensures.part c.context.ensures c.in-ok-option.option c.in-ok-option.was);
+          (option-holds-part b c.parse.result c.context.result c.parse.ensures.part c.context.ensures c.in_ok-option.option c.in_ok-option.was);
     }

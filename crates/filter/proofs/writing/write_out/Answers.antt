@@ -14,11 +14,11 @@ use Rattle.filter.specs.Writes.{RoomForRow, row_form}
 use Rattle.filter.proofs.WriteOuts.{reads_short, written_of, room, row_room, row_bytes, output_is, reads_again}
 use Rattle.filter.proofs.writing.write_out.Goals as goal
 
-pub write-each-requires : goal.write-each-requires
-write-each-requires g c =
+pub write_each-requires : goal.write_each-requires
+write_each-requires g c =
     let m = g.B.Book.meaning c.args.book.now in
     let bs = c.args.filter.now in
-    let k = written_of m bs c.in-ok-size.size (sym c.written-len.ensures ∙ ap answered c.in-ok-size.was) in
+    let k = written_of m bs c.in_ok-size.size (sym c.written_len.ensures ∙ ap answered c.in_ok-size.was) in
     let free = length c.args.output.now in
     let there = subst (λ (w : Walked). RoomForRow (each 1 (option_summary m) w) 0 free) (sym c.new.ensures.walks) (row_room m bs k free (omega arith)) in
     record {
@@ -32,16 +32,16 @@ returns g c =
     let law = g.met.B.Book.lawful c.args.book.now in
     let bs = c.args.filter.now in
     let old = c.args.output.now in
-    let n = c.in-ok-size.size in
-    let k = written_of m bs n (sym c.written-len.ensures ∙ ap answered c.in-ok-size.was) in
+    let n = c.in_ok-size.size in
+    let k = written_of m bs n (sym c.written_len.ensures ∙ ap answered c.in_ok-size.was) in
     let same = ap (λ (l : Layer). each (layer_number l) (option_summary m) (ahead c.new.result)) c.new.ensures.layer ∙ ap (each 1 (option_summary m)) c.new.ensures.walks in
     let row : row_form (each (layer_number c.new.result.layer) (option_summary m) (ahead c.new.result)) ≡ written k.reading = ap row_form same ∙ row_bytes m bs k in
     let end : 0 + length (written k.reading) ≡ n = zero-add (length (written k.reading)) ∙ k.size in
-    let value : c.write-each.result ≡ Ok n = c.write-each.ensures.value ∙ ap {B = Result ℕ Fault} (λ (x : Bytes). Ok (0 + length x)) row ∙ ap {B = Result ℕ Fault} Ok end in
-    let after : c.write-each.new.output ≡ output_after m old bs = c.write-each.ensures.after ∙ ap (over old 0) row ∙ output_is m bs k old (omega arith) in
+    let value : c.write_each.result ≡ Ok n = c.write_each.ensures.value ∙ ap {B = Result ℕ Fault} (λ (x : Bytes). Ok (0 + length x)) row ∙ ap {B = Result ℕ Fault} Ok end in
+    let after : c.write_each.new.output ≡ output_after m old bs = c.write_each.ensures.after ∙ ap (over old 0) row ∙ output_is m bs k old (omega arith) in
     record {
       value = ap answered value ∙ ap {B = Read ℕ} (λ (i : ℕ). Ok i) (sym k.size) ∙ sym (ap (λ (q : Read Bytes). q >>= λ x. Ok (length x)) (room m bs k (length old) (omega arith)));
       after = after;
-      trip = subst (λ (q : Result ℕ Fault). IfOk q (λ i. i ≤ 65531 → read_filter m (take i c.write-each.new.output) ≡ read_filter m bs)) (sym value)
+      trip = subst (λ (q : Result ℕ Fault). IfOk q (λ i. i ≤ 65531 → read_filter m (take i c.write_each.new.output) ≡ read_filter m bs)) (sym value)
           (λ short. ap (λ (o : Bytes). read_filter m (take n o)) after ∙ reads_again m bs k old law (octets bs c.type-inv.filter) (omega arith) short);
     }

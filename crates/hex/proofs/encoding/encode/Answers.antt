@@ -5,11 +5,11 @@ use Rattle.hex.proofs.encoding.encode.Goals as goal
 pub loop-byte-preserved : goal.loop-byte-preserved
 loop-byte-preserved c =
     encode_step c.args.bytes.now _ _ _ _ _ _ c.loop-byte.byte-index c.loop-byte-test.true
-    (digit_alone _ _ _ _ c.push.ensures.ascii c.from.ensures c.digit-of.ensures
+    (digit_alone _ _ _ _ c.push.ensures.ascii c.from.ensures c.digit_of.ensures
     (omega (arith, c.type-inv.bytes c.loop-byte.byte-index)))
-    (digit_alone _ _ _ _ c.push-in-loop-byte.ensures.ascii c.from-in-loop-byte.ensures c.digit-of-in-loop-byte.ensures
+    (digit_alone _ _ _ _ c.push-in-loop-byte.ensures.ascii c.from-in-loop-byte.ensures c.digit_of-in-loop-byte.ensures
     (omega arith))
-    c.in-ok-push.ensures.bytes c.in-ok-push-2.ensures.bytes c.loop-byte.invariant
+    c.in_ok-push.ensures.bytes c.in_ok-push-2.ensures.bytes c.loop-byte.invariant
 
 pub returns : goal.returns
 returns c = encode_end c.args.bytes.now _ _ c.loop-byte.byte-index c.loop-byte-test.false c.loop-byte.invariant

@@ -8,5 +8,5 @@ returns g c =
     let x = g.T.Nla.payload c.args.nla.now in
     let part = take (c.args.at + c.args.size - c.args.at) (drop c.args.at c.args.buffer.now) in
     let just : length x ≡ length part = simp (length-take, length-drop) (omega arith) in
-    put-over c.args.buffer.now c.args.at (c.args.at + c.args.size - c.args.at) c.emit-value.new.buffer x
-    (c.emit-value.ensures.after ∙ cond-true _ _ _ (eq-eqb (length x) (length part) just)) (omega arith) (omega arith)
+    put-over c.args.buffer.now c.args.at (c.args.at + c.args.size - c.args.at) c.emit_value.new.buffer x
+    (c.emit_value.ensures.after ∙ cond-true _ _ _ (eq-eqb (length x) (length part) just)) (omega arith) (omega arith)

@@ -10,6 +10,6 @@ returns c =
     record {
       value = sym fits;
       after =
-          put-over c.args.buffer.now c.args.at _ c.copy-from-slice.new.self c.args.part.now c.copy-from-slice.ensures.after (omega arith) (omega arith)
+          put-over c.args.buffer.now c.args.at _ c.copy_from_slice.new.self c.args.part.now c.copy_from_slice.ensures.after (omega arith) (omega arith)
           ∙ sym (cond-true _ _ _ fits);
     }

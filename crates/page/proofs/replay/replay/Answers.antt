@@ -18,10 +18,10 @@ loop-turn-preserved g c =
     let ts = c.args.turns.now in
     let i = c.loop-turn.turn-index in
     let s = state (as_page c.loop-turn.page) c.loop-turn.memory in
-    let t = state (as_page c.take-turn.new.page) c.take-turn.new.memory in (
-      run_more m n ts i _ c.loop-turn-test.true s t c.loop-turn.invariant.1 (answered c.take-turn.result) c.take-turn.ensures.outcome _ c.loop-turn.invariant.0,
-      size-more m n ts i _ c.loop-turn-test.true s t c.loop-turn.invariant.1 (answered c.take-turn.result) c.take-turn.ensures.outcome,
-      fair_more m n ts i _ c.loop-turn-test.true s t c.loop-turn.invariant.1 (answered c.take-turn.result) c.take-turn.ensures.outcome c.take-turn.ensures.fair c.loop-turn.invariant.2,
+    let t = state (as_page c.take_turn.new.page) c.take_turn.new.memory in (
+      run_more m n ts i _ c.loop-turn-test.true s t c.loop-turn.invariant.1 (answered c.take_turn.result) c.take_turn.ensures.outcome _ c.loop-turn.invariant.0,
+      size-more m n ts i _ c.loop-turn-test.true s t c.loop-turn.invariant.1 (answered c.take_turn.result) c.take_turn.ensures.outcome,
+      fair_more m n ts i _ c.loop-turn-test.true s t c.loop-turn.invariant.1 (answered c.take_turn.result) c.take_turn.ensures.outcome c.take_turn.ensures.fair c.loop-turn.invariant.2,
     )
 
 pub returns : goal.returns

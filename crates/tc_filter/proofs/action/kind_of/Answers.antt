@@ -11,49 +11,49 @@ use Rattle.tc_filter.specs.declared.action.Seen.{Seen}
 use Rattle.tc_filter.proofs.KindTexts.{found-one, same_layer, text-ok, text-bad, kind-more, kind-bad, several}
 use Rattle.tc_filter.proofs.action.kind_of.Goals as goal
 
-pub returns-in-err-text : goal.returns-in-err-text
-returns-in-err-text c =
-    let a = c.in-ok-attribute.attribute in
-    let f = c.in-err-text.field-0.0 in
+pub returns-in_err-text : goal.returns-in_err-text
+returns-in_err-text c =
+    let a = c.in_ok-attribute.attribute in
+    let f = c.in_err-text.field-0.0 in
     let home = c.args.action.now.place in
-    let one : type_of a.word ≡ 1 = sym c.kind.ensures ∙ c.if-kind-eq-TCA-ACT-KIND.true in
-    let step = found-one c.loop-attribute.attribute-iterator c.next.new.self c.in-Some.attribute a c.in-ok-attribute.was c.in-Some.ensures.steps in
-    let t = text-bad a.place a.value.now c.parse-string.result c.context.result c.parse-string.ensures.text c.context.ensures f c.in-err-text.was in
-    let p = err_from_is_err_and c.from-residual-in-err-text.result c.from-residual-in-err-text.ensures.1 in
+    let one : type_of a.word ≡ 1 = sym c.kind.ensures ∙ c.if-kind-eq-TCA_ACT_KIND.true in
+    let step = found-one c.loop-attribute.attribute-iterator c.next.new.self c.in-Some.attribute a c.in_ok-attribute.was c.in-Some.ensures.steps in
+    let t = text-bad a.place a.value.now c.parse_string.result c.context.result c.parse_string.ensures.text c.context.ensures f c.in_err-text.was in
+    let p = err_from_is_err_and c.from-residual-in_err-text.result c.from-residual-in_err-text.ensures.1 in
     ap kind_heard p.1 ∙ ap (λ (g : Fault). Err (numbers g)) p.2
     ∙ sym (kind-bad home c.loop-attribute.seen a.place a.word a.value.now (ahead c.next.new.self) one (numbers f) t)
     ∙ ap (kind_among home c.loop-attribute.seen) (sym step) ∙ c.loop-attribute.invariant.2
 
 pub loop-attribute-preserved-in-Nothing : goal.loop-attribute-preserved-in-Nothing
 loop-attribute-preserved-in-Nothing c =
-    let a = c.in-ok-attribute.attribute in
+    let a = c.in_ok-attribute.attribute in
     let home = c.args.action.now.place in
-    let one : type_of a.word ≡ 1 = sym c.kind.ensures ∙ c.if-kind-eq-TCA-ACT-KIND.true in
-    let step = found-one c.loop-attribute.attribute-iterator c.next.new.self c.in-Some.attribute a c.in-ok-attribute.was c.in-Some.ensures.steps in
-    let layer = same_layer c.loop-attribute.attribute-iterator c.next.new.self c.in-Some.attribute a c.in-ok-attribute.was c.in-Some.ensures.steps in
-    let t = text-ok a.place a.value.now c.parse-string.result c.context.result c.parse-string.ensures.text c.context.ensures c.in-ok-text.text c.in-ok-text.was in (
+    let one : type_of a.word ≡ 1 = sym c.kind.ensures ∙ c.if-kind-eq-TCA_ACT_KIND.true in
+    let step = found-one c.loop-attribute.attribute-iterator c.next.new.self c.in-Some.attribute a c.in_ok-attribute.was c.in-Some.ensures.steps in
+    let layer = same_layer c.loop-attribute.attribute-iterator c.next.new.self c.in-Some.attribute a c.in_ok-attribute.was c.in-Some.ensures.steps in
+    let t = text-ok a.place a.value.now c.parse_string.result c.context.result c.parse_string.ensures.text c.context.ensures c.in_ok-text.text c.in_ok-text.was in (
       tt,
       tt,
-      sym (kind-more home Seen.Nothing a.place a.word a.value.now (ahead c.next.new.self) one c.in-ok-text.text.now t)
+      sym (kind-more home Seen.Nothing a.place a.word a.value.now (ahead c.next.new.self) one c.in_ok-text.text.now t)
           ∙ ap (kind_among home Seen.Nothing) (sym step)
           ∙ ap (λ (s : Seen). kind_among home s (ahead c.loop-attribute.attribute-iterator)) (sym c.in-Nothing.is)
           ∙ c.loop-attribute.invariant.2,
       layer ∙ c.loop-attribute.invariant.3,
     )
 
-pub loop-attribute-preserved-in-default : goal.loop-attribute-preserved-in-default
-loop-attribute-preserved-in-default c =
-    let a = c.in-ok-attribute.attribute in
+pub loop-attribute-preserved-in_default : goal.loop-attribute-preserved-in_default
+loop-attribute-preserved-in_default c =
+    let a = c.in_ok-attribute.attribute in
     let home = c.args.action.now.place in
     let seen = c.loop-attribute.seen in
-    let one : type_of a.word ≡ 1 = sym c.kind.ensures ∙ c.if-kind-eq-TCA-ACT-KIND.true in
-    let step = found-one c.loop-attribute.attribute-iterator c.next.new.self c.in-Some.attribute a c.in-ok-attribute.was c.in-Some.ensures.steps in
-    let layer = same_layer c.loop-attribute.attribute-iterator c.next.new.self c.in-Some.attribute a c.in-ok-attribute.was c.in-Some.ensures.steps in
-    let t = text-ok a.place a.value.now c.parse-string.result c.context.result c.parse-string.ensures.text c.context.ensures c.in-ok-text.text c.in-ok-text.was in (
+    let one : type_of a.word ≡ 1 = sym c.kind.ensures ∙ c.if-kind-eq-TCA_ACT_KIND.true in
+    let step = found-one c.loop-attribute.attribute-iterator c.next.new.self c.in-Some.attribute a c.in_ok-attribute.was c.in-Some.ensures.steps in
+    let layer = same_layer c.loop-attribute.attribute-iterator c.next.new.self c.in-Some.attribute a c.in_ok-attribute.was c.in-Some.ensures.steps in
+    let t = text-ok a.place a.value.now c.parse_string.result c.context.result c.parse_string.ensures.text c.context.ensures c.in_ok-text.text c.in_ok-text.was in (
       tt,
       tt,
-      sym (several home seen (kinds (ahead c.next.new.self)) c.in-ok-text.text.now c.in-default.not-Nothing)
-          ∙ sym (kind-more home seen a.place a.word a.value.now (ahead c.next.new.self) one c.in-ok-text.text.now t)
+      sym (several home seen (kinds (ahead c.next.new.self)) c.in_ok-text.text.now c.in_default.not-Nothing)
+          ∙ sym (kind-more home seen a.place a.word a.value.now (ahead c.next.new.self) one c.in_ok-text.text.now t)
           ∙ ap (kind_among home seen) (sym step)
           ∙ c.loop-attribute.invariant.2,
       layer ∙ c.loop-attribute.invariant.3,

@@ -7,7 +7,7 @@ pub returns-then-whole : goal.returns-then-whole
 returns-then-whole c =
     let old = c.args.buffer.now in
     let form = selector_form c.args.selector.now in
-    let size : c.buffer-len.result ≡ length form = c.buffer-len.ensures in
+    let size : c.buffer_len.result ≡ length form = c.buffer_len.ensures in
     record {
       value = ap (λ (n : ℕ). eqb n (length old)) size;
       after = whole-form old c.emit.new.buffer form (sym size ∙ c.if-whole.true) c.emit.ensures.after;

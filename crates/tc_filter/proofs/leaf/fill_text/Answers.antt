@@ -9,7 +9,7 @@ returns-then-whole c =
     let old = c.args.buffer.now in
     let t = c.args.text.now in
     let size : length (t ++ 0 ∷ []) ≡ length old = sym (length-text t) ∙ omega arith in
-    let s₁ = more (none old) t 0 c.overwrite.ensures.after c.as-bytes.ensures.value refl (omega (arith, length-text t)) in
+    let s₁ = more (none old) t 0 c.overwrite.ensures.after c.as_bytes.ensures.value refl (omega (arith, length-text t)) in
     let s₂ = more s₁ (0 ∷ []) (length t) c.overwrite-then-whole.ensures.after refl refl (omega (arith, length-text t)) in
     record {
       value = ap (λ (n : ℕ). eqb n (length old)) (length-text t);

@@ -5,6 +5,6 @@ use Rattle.tc_records.proofs.fields.u64_at.Goals as goal
 
 pub returns : goal.returns
 returns c =
-    let low : c.from.result ≡ le c.args.at 4 c.args.bytes.now = c.from.ensures ∙ c.u32-at.ensures in
-    let high : c.from-2.result ≡ le (c.args.at + 4) 4 c.args.bytes.now = c.from-2.ensures ∙ c.u32-at-2.ensures in
+    let low : c.from.result ≡ le c.args.at 4 c.args.bytes.now = c.from.ensures ∙ c.u32_at.ensures in
+    let high : c.from-2.result ≡ le (c.args.at + 4) 4 c.args.bytes.now = c.from-2.ensures ∙ c.u32_at-2.ensures in
     (λ i. low i + high i * 4294967296) ∙ le_eight c.args.at c.args.bytes.now c.requires

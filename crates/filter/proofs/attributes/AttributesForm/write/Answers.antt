@@ -12,13 +12,13 @@ use Rattle.filter.specs.Nests.{none, items_of, read_in_attribute}
 use Rattle.filter.proofs.RowWrites.{room_around, form-around_it}
 use Rattle.filter.proofs.attributes.AttributesForm.write.Goals as goal
 
-pub write-inside-requires : goal.write-inside-requires
-write-inside-requires g c =
-    let held = subst (λ (i : Content). HeldBy c.args.nla.now (content_meant i)) c.in-Nest.is c.in-ok-leaf.ensures.held in
+pub write_inside-requires : goal.write_inside-requires
+write_inside-requires g c =
+    let held = subst (λ (i : Content). HeldBy c.args.nla.now (content_meant i)) c.in-Nest.is c.in_ok-leaf.ensures.held in
     let m = g.B.Book.meaning c.args.self.now.book.now in
     let k = c.args.self.now.kind.now in
     let nest = c.in-Nest.nest in
-    let reads = ap (λ (i : Content). read_in_attribute m k (content_meant i)) (sym c.in-Nest.is) ∙ c.in-ok-leaf.ensures.reads m k in
+    let reads = ap (λ (i : Content). read_in_attribute m k (content_meant i)) (sym c.in-Nest.is) ∙ c.in_ok-leaf.ensures.reads m k in
     record {
       inside = omega (arith, held.0, ap length held.1, c.requires.inside);
       room = room_around 0x8002 none items_of _ c.args.at (length c.args.output.now) (each 4 (action_option_summary m k) (walk (nest.place + 4) nest.value.now)) reads c.requires.room;
@@ -29,9 +29,9 @@ returns-in-Nest g c =
     let m = g.B.Book.meaning c.args.self.now.book.now in
     let k = c.args.self.now.kind.now in
     let nest = c.in-Nest.nest in
-    let reads = ap (λ (i : Content). read_in_attribute m k (content_meant i)) (sym c.in-Nest.is) ∙ c.in-ok-leaf.ensures.reads m k in
+    let reads = ap (λ (i : Content). read_in_attribute m k (content_meant i)) (sym c.in-Nest.is) ∙ c.in_ok-leaf.ensures.reads m k in
     let form = form-around_it 0x8002 none items_of _ c.args.at (length c.args.output.now) (each 4 (action_option_summary m k) (walk (nest.place + 4) nest.value.now)) reads c.requires.room in
     record {
-      value = c.write-inside.ensures.value ∙ ap {B = Result ℕ Fault} (λ (x : Bytes). Ok (c.args.at + length x)) form;
-      after = c.write-inside.ensures.after ∙ ap (over c.args.output.now c.args.at) form;
+      value = c.write_inside.ensures.value ∙ ap {B = Result ℕ Fault} (λ (x : Bytes). Ok (c.args.at + length x)) form;
+      after = c.write_inside.ensures.after ∙ ap (over c.args.output.now c.args.at) form;
     }

@@ -11,32 +11,32 @@ use Rattle.filter.specs.WriteOut.{payload_length}
 use Rattle.filter.proofs.Nested.{nest_payload, nest_payload_bad}
 use Rattle.filter.proofs.options.Options.payload_len.Goals as goal
 
-pub returns-in-err-leaf : goal.returns-in-err-leaf
-returns-in-err-leaf g c =
+pub returns-in_err-leaf : goal.returns-in_err-leaf
+returns-in_err-leaf g c =
     let m = g.B.Book.meaning c.args.self.now.book.now in
     let p = err_from_is_err_and c.from-residual.result c.from-residual.ensures.1 in
-    ap answered p.1 ∙ ap (λ (h : Fault). Err (numbers h)) p.2 ∙ ap payload_length (c.in-err-leaf.ensures.reads m)
+    ap answered p.1 ∙ ap (λ (h : Fault). Err (numbers h)) p.2 ∙ ap payload_length (c.in_err-leaf.ensures.reads m)
 
-pub returns-in-err-row : goal.returns-in-err-row
-returns-in-err-row g c =
+pub returns-in_err-row : goal.returns-in_err-row
+returns-in_err-row g c =
     let m = g.B.Book.meaning c.args.self.now.book.now in
     let nest = c.in-Nest.nest in
-    let reads = ap (λ (i : Content). read_in_option m (content_meant i)) (sym c.in-Nest.is) ∙ c.in-ok-leaf.ensures.reads m in
-    let p = err_from_is_err_and c.from-residual-in-err-row.result c.from-residual-in-err-row.ensures.1 in
-    let row = sym c.read_inside.ensures.value ∙ ap answered c.in-err-row.was in
+    let reads = ap (λ (i : Content). read_in_option m (content_meant i)) (sym c.in-Nest.is) ∙ c.in_ok-leaf.ensures.reads m in
+    let p = err_from_is_err_and c.from-residual-in_err-row.result c.from-residual-in_err-row.ensures.1 in
+    let row = sym c.read_inside.ensures.value ∙ ap answered c.in_err-row.was in
     ap answered p.1 ∙ ap (λ (h : Fault). Err (numbers h)) p.2
-    ∙ nest_payload_bad 2 (action_summary m) 7 items_of options_of _ (walk (nest.place + 4) nest.value.now) (numbers c.in-err-row.field-0.0) reads row
+    ∙ nest_payload_bad 2 (action_summary m) 7 items_of options_of _ (walk (nest.place + 4) nest.value.now) (numbers c.in_err-row.field-0.0) reads row
 
 pub returns-in-Leaf : goal.returns-in-Leaf
 returns-in-Leaf g c =
     let m = g.B.Book.meaning c.args.self.now.book.now in
-    let reads = ap (λ (i : Content). read_in_option m (content_meant i)) (sym c.in-Leaf.is) ∙ c.in-ok-leaf.ensures.reads m in
-    ap {B = Read ℕ} (λ (n : ℕ). Ok n) c.value-len.ensures ∙ ap payload_length reads
+    let reads = ap (λ (i : Content). read_in_option m (content_meant i)) (sym c.in-Leaf.is) ∙ c.in_ok-leaf.ensures.reads m in
+    ap {B = Read ℕ} (λ (n : ℕ). Ok n) c.value_len.ensures ∙ ap payload_length reads
 
-pub returns-in-ok-row : goal.returns-in-ok-row
-returns-in-ok-row g c =
+pub returns-in_ok-row : goal.returns-in_ok-row
+returns-in_ok-row g c =
     let m = g.B.Book.meaning c.args.self.now.book.now in
     let nest = c.in-Nest.nest in
-    let reads = ap (λ (i : Content). read_in_option m (content_meant i)) (sym c.in-Nest.is) ∙ c.in-ok-leaf.ensures.reads m in
-    let row = sym c.read_inside.ensures.value ∙ ap answered c.in-ok-row.was in
-    nest_payload 2 (action_summary m) 7 items_of options_of _ (walk (nest.place + 4) nest.value.now) c.in-ok-row.row reads row
+    let reads = ap (λ (i : Content). read_in_option m (content_meant i)) (sym c.in-Nest.is) ∙ c.in_ok-leaf.ensures.reads m in
+    let row = sym c.read_inside.ensures.value ∙ ap answered c.in_ok-row.was in
+    nest_payload 2 (action_summary m) 7 items_of options_of _ (walk (nest.place + 4) nest.value.now) c.in_ok-row.row reads row

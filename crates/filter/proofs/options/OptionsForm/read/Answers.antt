@@ -16,52 +16,52 @@ use Rattle.filter.proofs.options.OptionsForm.read.Goals as goal
 
 pub leaf-requires : goal.leaf-requires
 leaf-requires g c =
-    let held = subst (λ (i : Content). HeldBy c.args.nla.now (content_meant i)) c.in-Leaf.is c.in-ok-leaf.ensures.held in
-    omega (arith, held, c.requires, c.value-len.ensures)
+    let held = subst (λ (i : Content). HeldBy c.args.nla.now (content_meant i)) c.in-Leaf.is c.in_ok-leaf.ensures.held in
+    omega (arith, held, c.requires, c.value_len.ensures)
 
-pub read-inside-requires : goal.read-inside-requires
-read-inside-requires g c =
-    let held = subst (λ (i : Content). HeldBy c.args.nla.now (content_meant i)) c.in-Nest.is c.in-ok-leaf.ensures.held in
+pub read_inside-requires : goal.read_inside-requires
+read_inside-requires g c =
+    let held = subst (λ (i : Content). HeldBy c.args.nla.now (content_meant i)) c.in-Nest.is c.in_ok-leaf.ensures.held in
     omega (arith, held.0, ap length held.1, c.requires)
 
-pub returns-in-err-row : goal.returns-in-err-row
-returns-in-err-row g c =
+pub returns-in_err-row : goal.returns-in_err-row
+returns-in_err-row g c =
     let m = g.B.Book.meaning c.args.self.now.book.now in
     let nest = c.in-Nest.nest in
-    let reads = ap (λ (i : Content). read_in_option m (content_meant i)) (sym c.in-Nest.is) ∙ c.in-ok-leaf.ensures.reads m in
-    let f = c.in-err-row.field-0.0 in
-    let p = err_from_is_err_and c.from-residual-in-err-row.result c.from-residual-in-err-row.ensures.1 in
-    let row = sym c.read_inside.ensures.value ∙ ap answered c.in-err-row.was in
+    let reads = ap (λ (i : Content). read_in_option m (content_meant i)) (sym c.in-Nest.is) ∙ c.in_ok-leaf.ensures.reads m in
+    let f = c.in_err-row.field-0.0 in
+    let p = err_from_is_err_and c.from-residual-in_err-row.result c.from-residual-in_err-row.ensures.1 in
+    let row = sym c.read_inside.ensures.value ∙ ap answered c.in_err-row.was in
     record {
       value = ap answered p.1 ∙ ap (λ (h : Fault). Err (numbers h)) p.2
           ∙ nest-bad 2 (action_summary m) 7 items_of options_of _ (walk (nest.place + 4) nest.value.now) (numbers f) reads row;
-      bounds = IfOk-from_err c.from-residual-in-err-row.result _ c.from-residual-in-err-row.ensures.0;
+      bounds = IfOk-from_err c.from-residual-in_err-row.result _ c.from-residual-in_err-row.ensures.0;
     }
 
 pub nest-requires : goal.nest-requires
 nest-requires g c =
-    let held = subst (λ (i : Content). HeldBy c.args.nla.now (content_meant i)) c.in-Nest.is c.in-ok-leaf.ensures.held in
-    omega (arith, c.in-ok-row.ensures.bounds.3, ap length held.1, c.requires)
+    let held = subst (λ (i : Content). HeldBy c.args.nla.now (content_meant i)) c.in-Nest.is c.in_ok-leaf.ensures.held in
+    omega (arith, c.in_ok-row.ensures.bounds.3, ap length held.1, c.requires)
 
 pub returns-in-Leaf : goal.returns-in-Leaf
 returns-in-Leaf g c =
-    let held = subst (λ (i : Content). HeldBy c.args.nla.now (content_meant i)) c.in-Leaf.is c.in-ok-leaf.ensures.held in
+    let held = subst (λ (i : Content). HeldBy c.args.nla.now (content_meant i)) c.in-Leaf.is c.in_ok-leaf.ensures.held in
     let m = g.B.Book.meaning c.args.self.now.book.now in
-    let reads = ap (λ (i : Content). read_in_option m (content_meant i)) (sym c.in-Leaf.is) ∙ c.in-ok-leaf.ensures.reads m in
+    let reads = ap (λ (i : Content). read_in_option m (content_meant i)) (sym c.in-Leaf.is) ∙ c.in_ok-leaf.ensures.reads m in
     record {
-      value = leaf-tally (option_summary m c.args.nla.now.place c.args.nla.now.word c.args.nla.now.value.now) (attribute (leaf_word c.in-Leaf.leaf) (leaf_payload c.in-Leaf.leaf)) c.value-len.result c.leaf.result reads c.value-len.ensures c.leaf.ensures;
-      bounds = leaf_bounds c.leaf.result c.value-len.result (length c.args.nla.now.value.now) c.leaf.ensures (omega (arith, held, c.value-len.ensures));
+      value = leaf-tally (option_summary m c.args.nla.now.place c.args.nla.now.word c.args.nla.now.value.now) (attribute (leaf_word c.in-Leaf.leaf) (leaf_payload c.in-Leaf.leaf)) c.value_len.result c.leaf.result reads c.value_len.ensures c.leaf.ensures;
+      bounds = leaf_bounds c.leaf.result c.value_len.result (length c.args.nla.now.value.now) c.leaf.ensures (omega (arith, held, c.value_len.ensures));
     }
 
-pub returns-in-ok-row : goal.returns-in-ok-row
-returns-in-ok-row g c =
-    let held = subst (λ (i : Content). HeldBy c.args.nla.now (content_meant i)) c.in-Nest.is c.in-ok-leaf.ensures.held in
+pub returns-in_ok-row : goal.returns-in_ok-row
+returns-in_ok-row g c =
+    let held = subst (λ (i : Content). HeldBy c.args.nla.now (content_meant i)) c.in-Nest.is c.in_ok-leaf.ensures.held in
     let m = g.B.Book.meaning c.args.self.now.book.now in
     let nest = c.in-Nest.nest in
-    let row = c.in-ok-row.row in
-    let reads = ap (λ (i : Content). read_in_option m (content_meant i)) (sym c.in-Nest.is) ∙ c.in-ok-leaf.ensures.reads m in
-    let read = sym c.read_inside.ensures.value ∙ ap answered c.in-ok-row.was in
-    let bound = subst (λ (x : Bytes). Bounded row (length x)) held.1 c.in-ok-row.ensures.bounds in
+    let row = c.in_ok-row.row in
+    let reads = ap (λ (i : Content). read_in_option m (content_meant i)) (sym c.in-Nest.is) ∙ c.in_ok-leaf.ensures.reads m in
+    let read = sym c.read_inside.ensures.value ∙ ap answered c.in_ok-row.was in
+    let bound = subst (λ (x : Bytes). Bounded row (length x)) held.1 c.in_ok-row.ensures.bounds in
     record {
       value = nest-tally 2 (action_summary m) 7 items_of options_of _ (walk (nest.place + 4) nest.value.now) row c.nest.result reads read c.nest.ensures;
       bounds = nest_bounds row c.nest.result row.items row.action_options (length c.args.nla.now.value.now) c.nest.ensures bound bound.0 bound.2;

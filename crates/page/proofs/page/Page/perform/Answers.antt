@@ -19,60 +19,60 @@ stopped p mem r f h =
     let q = err_from_is_err_and r h in
     ap (λ (z : Result (Unit {0}) Fault). outcome (answered z) (state (as_page p) mem)) (q.1 ∙ ap {B = Result (Unit {0}) Fault} Err q.2)
 
-pub returns-in-err-reads-as-option : goal.returns-in-err-reads-as-option
-returns-in-err-reads-as-option g c =
+pub returns-in_err-reads_as_option : goal.returns-in_err-reads_as_option
+returns-in_err-reads_as_option g c =
     let m = g.B.Book.meaning c.args.book.now in
     let a = c.in-Root-Put in
-    let f = c.in-err-reads-as-option.field-0.0 in
-    let belongs : eqb (a.word % 16384) 7 ≡ false = ne_eqb (a.word % 16384) 7 c.if-word-ne-TCA-U32-ACT.true in
-    stopped c.args.self.now c.args.memory.now c.from-residual-in-err-reads-as-option.result f c.from-residual-in-err-reads-as-option.ensures.1
-    ∙ put_unread m c.args.self.now c.args.memory.now _ c.in-ok-lent.ensures c.args.call Root a.is-0 a.word a.value a.is-1 (ap not belongs)
-    (numbers f) (c.in-err-reads-as-option.ensures m)
+    let f = c.in_err-reads_as_option.field-0.0 in
+    let belongs : eqb (a.word % 16384) 7 ≡ false = ne_eqb (a.word % 16384) 7 c.if-word-ne-TCA_U32_ACT.true in
+    stopped c.args.self.now c.args.memory.now c.from-residual-in_err-reads_as_option.result f c.from-residual-in_err-reads_as_option.ensures.1
+    ∙ put_unread m c.args.self.now c.args.memory.now _ c.in_ok-lent.ensures c.args.call Root a.is-0 a.word a.value a.is-1 (ap not belongs)
+    (numbers f) (c.in_err-reads_as_option.ensures m)
 
-pub returns-in-err-reads-as-attribute : goal.returns-in-err-reads-as-attribute
-returns-in-err-reads-as-attribute g c =
+pub returns-in_err-reads_as_attribute : goal.returns-in_err-reads_as_attribute
+returns-in_err-reads_as_attribute g c =
     let m = g.B.Book.meaning c.args.book.now in
     let a = c.in-Action-Put in
-    let f = c.in-err-reads-as-attribute.field-0.0 in
-    let belongs : eqb (a.word % 16384) 2 ≡ false = ne_eqb (a.word % 16384) 2 c.if-word-ne-TCA-ACT-OPTIONS.true in
-    stopped c.args.self.now c.args.memory.now c.from-residual-in-err-reads-as-attribute.result f c.from-residual-in-err-reads-as-attribute.ensures.1
-    ∙ put_unread m c.args.self.now c.args.memory.now _ c.in-ok-lent.ensures c.args.call (Action a.field-0-0 a.field-1-0) a.is-0 a.word a.value a.is-1 (ap not belongs)
-    (numbers f) (c.in-err-reads-as-attribute.ensures m)
+    let f = c.in_err-reads_as_attribute.field-0.0 in
+    let belongs : eqb (a.word % 16384) 2 ≡ false = ne_eqb (a.word % 16384) 2 c.if-word-ne-TCA_ACT_OPTIONS.true in
+    stopped c.args.self.now c.args.memory.now c.from-residual-in_err-reads_as_attribute.result f c.from-residual-in_err-reads_as_attribute.ensures.1
+    ∙ put_unread m c.args.self.now c.args.memory.now _ c.in_ok-lent.ensures c.args.call (Action a.field-0-0 a.field-1-0) a.is-0 a.word a.value a.is-1 (ap not belongs)
+    (numbers f) (c.in_err-reads_as_attribute.ensures m)
 
 pub returns-in-Actions-Open : goal.returns-in-Actions-Open
 returns-in-Actions-Open g c =
     c.nest-in-Actions-Open.ensures
-    ∙ nest_begun (g.B.Book.meaning c.args.book.now) c.args.self.now c.args.memory.now _ c.in-ok-lent.ensures c.args.call (Actions c.in-Actions-Open.a) c.in-Actions-Open.is-0
+    ∙ nest_begun (g.B.Book.meaning c.args.book.now) c.args.self.now c.args.memory.now _ c.in_ok-lent.ensures c.args.call (Actions c.in-Actions-Open.a) c.in-Actions-Open.is-0
     c.in-Actions-Open.tab _ c.in-Actions-Open.is-1 (omega arith) refl c.in-Actions-Open.tab-is
 
 pub returns-in-Action-Open-eq2 : goal.returns-in-Action-Open-eq2
 returns-in-Action-Open-eq2 g c =
-    let two : c.in-default-Open.kind ≡ 2 = omega arith in
+    let two : c.in_default-Open.kind ≡ 2 = omega arith in
     c.nest-in-Action-Open-eq2.ensures
-    ∙ nest_begun (g.B.Book.meaning c.args.book.now) c.args.self.now c.args.memory.now _ c.in-ok-lent.ensures c.args.call (Action c.in-Action-Open-eq2.a c.in-Action-Open-eq2.b) c.in-Action-Open-eq2.is-0
-    2 32770 (c.in-default-Open.is-1 ∙ ap Open two) (omega arith) refl refl
+    ∙ nest_begun (g.B.Book.meaning c.args.book.now) c.args.self.now c.args.memory.now _ c.in_ok-lent.ensures c.args.call (Action c.in-Action-Open-eq2.a c.in-Action-Open-eq2.b) c.in-Action-Open-eq2.is-0
+    2 32770 (c.in_default-Open.is-1 ∙ ap Open two) (omega arith) refl refl
 
-pub returns-in-ok-reads-as-option : goal.returns-in-ok-reads-as-option
-returns-in-ok-reads-as-option g c =
+pub returns-in_ok-reads_as_option : goal.returns-in_ok-reads_as_option
+returns-in_ok-reads_as_option g c =
     let m = g.B.Book.meaning c.args.book.now in
     let w = c.in-Root-Put.word in
-    let belongs : eqb (w % 16384) 7 ≡ false = ne_eqb (w % 16384) 7 c.if-word-ne-TCA-U32-ACT.true in
+    let belongs : eqb (w % 16384) 7 ≡ false = ne_eqb (w % 16384) 7 c.if-word-ne-TCA_U32_ACT.true in
     c.append.ensures
-    ∙ put_written m c.args.self.now c.args.memory.now _ c.in-ok-lent.ensures c.args.call Root c.in-Root-Put.is-0 w c.in-Root-Put.value c.in-Root-Put.is-1 (ap not belongs)
-    (c.in-ok-reads-as-option.ensures m)
+    ∙ put_written m c.args.self.now c.args.memory.now _ c.in_ok-lent.ensures c.args.call Root c.in-Root-Put.is-0 w c.in-Root-Put.value c.in-Root-Put.is-1 (ap not belongs)
+    (c.in_ok-reads_as_option.ensures m)
 
-pub returns-in-ok-reads-as-attribute : goal.returns-in-ok-reads-as-attribute
-returns-in-ok-reads-as-attribute g c =
+pub returns-in_ok-reads_as_attribute : goal.returns-in_ok-reads_as_attribute
+returns-in_ok-reads_as_attribute g c =
     let m = g.B.Book.meaning c.args.book.now in
     let a = c.in-Action-Put in
-    let belongs : eqb (a.word % 16384) 2 ≡ false = ne_eqb (a.word % 16384) 2 c.if-word-ne-TCA-ACT-OPTIONS.true in
+    let belongs : eqb (a.word % 16384) 2 ≡ false = ne_eqb (a.word % 16384) 2 c.if-word-ne-TCA_ACT_OPTIONS.true in
     c.append-in-Action-Put.ensures
-    ∙ put_written m c.args.self.now c.args.memory.now _ c.in-ok-lent.ensures c.args.call (Action a.field-0-0 a.field-1-0) a.is-0 a.word a.value a.is-1 (ap not belongs)
-    (c.in-ok-reads-as-attribute.ensures m)
+    ∙ put_written m c.args.self.now c.args.memory.now _ c.in_ok-lent.ensures c.args.call (Action a.field-0-0 a.field-1-0) a.is-0 a.word a.value a.is-1 (ap not belongs)
+    (c.in_ok-reads_as_attribute.ensures m)
 
 pub returns-in-Options-Put : goal.returns-in-Options-Put
 returns-in-Options-Put g c =
     let m = g.B.Book.meaning c.args.book.now in
     let a = c.in-Options-Put in
     c.append-in-Options-Put.ensures
-    ∙ put_written m c.args.self.now c.args.memory.now _ c.in-ok-lent.ensures c.args.call (Options a.field-0-0 a.field-1-0 a.field-2-0) a.is-0 a.word a.value a.is-1 refl refl
+    ∙ put_written m c.args.self.now c.args.memory.now _ c.in_ok-lent.ensures c.args.call (Options a.field-0-0 a.field-1-0 a.field-2-0) a.is-0 a.word a.value a.is-1 refl refl

@@ -16,10 +16,10 @@ returns g c =
     let a = c.args.nla.now in
     let s = state (as_page c.args.page.now) c.args.memory.now in
     let s₁ = state (as_page c.open.new.self) c.open.new.memory in
-    let s₂ = state (as_page c.fill-each.new.page) c.fill-each.new.memory in
+    let s₂ = state (as_page c.fill_each.new.page) c.fill_each.new.memory in
     let s₃ = state (as_page c.close.new.self) c.close.new.memory in
     let inside : List Turn = row_turns option_turns_at (walk (a.place + 4) a.value.now) in
-    let filled : s₂ ≡ run m s₁ inside = c.fill-each.ensures ∙ ap (λ (z : Walked). run m s₁ (row_turns option_turns_at z)) (c.nested.ensures.walks (omega arith)) in
-    let two : type_of a.word ≡ 2 = sym c.kind.ensures ∙ c.if-kind-ne-TCA-ACT-OPTIONS.false in
+    let filled : s₂ ≡ run m s₁ inside = c.fill_each.ensures ∙ ap (λ (z : Walked). run m s₁ (row_turns option_turns_at z)) (c.nested.ensures.walks (omega arith)) in
+    let two : type_of a.word ≡ 2 = sym c.kind.ensures ∙ c.if-kind-ne-TCA_ACT_OPTIONS.false in
     nest_filled m s s₁ s₂ s₃ 2 (answered c.open.result) (answered c.close.result) inside c.open.ensures.outcome filled c.close.ensures
     ∙ ap (run m s) (sym (cond-true _ _ _ (eq-eqb (type_of a.word) 2 two)))

@@ -16,14 +16,14 @@ pub returns-in-Nat : goal.returns-in-Nat
 returns-in-Nat c =
     let e = nat-answer c.args.kind.now c.args.word c.args.payload c.type-inv.payload c.in-Nat.ensures c.parse-in-Nat.ensures in
     record {
-      value = c.write-option-in-Nat.ensures.value ∙ ap (λ (a : Answer). writes a c.args.memory.now) e;
-      after = c.write-option-in-Nat.ensures.after ∙ ap (λ (a : Answer). memory_after_writing a c.args.memory.now) e;
+      value = c.write_option-in-Nat.ensures.value ∙ ap (λ (a : Answer). writes a c.args.memory.now) e;
+      after = c.write_option-in-Nat.ensures.after ∙ ap (λ (a : Answer). memory_after_writing a c.args.memory.now) e;
     }
 
 pub returns-in-TunnelKey : goal.returns-in-TunnelKey
 returns-in-TunnelKey c =
     let e = tunnel_key-answer c.args.kind.now c.args.word c.args.payload c.type-inv.payload c.in-TunnelKey.ensures c.parse-in-TunnelKey.ensures in
     record {
-      value = c.write-option-in-TunnelKey.ensures.value ∙ ap (λ (a : Answer). writes a c.args.memory.now) e;
-      after = c.write-option-in-TunnelKey.ensures.after ∙ ap (λ (a : Answer). memory_after_writing a c.args.memory.now) e;
+      value = c.write_option-in-TunnelKey.ensures.value ∙ ap (λ (a : Answer). writes a c.args.memory.now) e;
+      after = c.write_option-in-TunnelKey.ensures.after ∙ ap (λ (a : Answer). memory_after_writing a c.args.memory.now) e;
     }

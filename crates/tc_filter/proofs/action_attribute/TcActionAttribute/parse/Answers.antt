@@ -3,6 +3,6 @@ use Rattle.tc_filter.proofs.action_attribute.TcActionAttribute.parse.Goals as go
 
 pub returns : goal.returns
 returns c = record {
-  reads = λ m k. attribute-as_read m k c.args.buf.now c.attribute-of-type.result c.attribute-of-type.ensures.heard;
-  part = c.attribute-of-type.ensures.part;
+  reads = λ m k. attribute-as_read m k c.args.buf.now c.attribute_of_type.result c.attribute_of_type.ensures.heard;
+  part = c.attribute_of_type.ensures.part;
 }

@@ -7,8 +7,8 @@ pub returns : goal.returns
 returns c =
     let old = c.args.buffer.now in
     let s = c.args.self.now in
-    let size : c.buffer-len-size.result ≡ length (selector_form s) = c.buffer-len-size.ensures in
+    let size : c.buffer_len-size.result ≡ length (selector_form s) = c.buffer_len-size.ensures in
     let room : length (selector_form s) ≤ length old = omega arith in
-    let s₁ = more (none old) (selector_head s) 0 c.overwrite.ensures.after c.head-bytes-head.ensures refl (omega arith) in
+    let s₁ = more (none old) (selector_head s) 0 c.overwrite.ensures.after c.head_bytes-head.ensures refl (omega arith) in
     let s₂ = more s₁ s.keys.now 16 c.overwrite-2.ensures.after refl refl (omega arith) in
-    record { value = written_length old old (selector_form s) room c.buffer-len-size.result size; after = written_front old _ (selector_form s) room s₂ }
+    record { value = written_length old old (selector_form s) room c.buffer_len-size.result size; after = written_front old _ (selector_form s) room s₂ }

@@ -12,6 +12,6 @@ returns-then-whole c =
     let k = c.args.self.now in
     let size : length old ≡ 24 = omega arith in
     let f1 : SFits w32 k.t_action = search rules in
-    let s0 = more (none old) (generic.encode (as_generic k.generic)) 0 c.overwrite.ensures.after c.to-bytes-generic.ensures refl (omega arith) in
-    let s1 = more s0 (signed_bytes 4 k.t_action) 20 c.overwrite-then-whole.ensures.after (c.i32-bytes-t-action.ensures ∙ ap (signed_bytes 4) (to_z-of_z w32 k.t_action f1)) refl (omega arith) in
+    let s0 = more (none old) (generic.encode (as_generic k.generic)) 0 c.overwrite.ensures.after c.to_bytes-generic.ensures refl (omega arith) in
+    let s1 = more s0 (signed_bytes 4 k.t_action) 20 c.overwrite-then-whole.ensures.after (c.i32_bytes-t_action.ensures ∙ ap (signed_bytes 4) (to_z-of_z w32 k.t_action f1)) refl (omega arith) in
     record { value = refl; after = written-whole 24 old _ _ size (filled s1 (omega arith)) }
