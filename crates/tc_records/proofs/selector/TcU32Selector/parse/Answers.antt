@@ -33,5 +33,5 @@ returns c =
       keys_are = ap (λ (k : ℕ). take k (drop 16 x)) size;
       long = omega arith;
     } in
-    let o = octets x c.type-inv.payload in
+    let o = octets x c.type_inv.payload in
     record { reads = reads x f; part = f.keys_are; written = written x f o; form = modelled x f o }
