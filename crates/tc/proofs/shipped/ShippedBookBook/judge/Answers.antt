@@ -5,12 +5,12 @@ use Rattle.tc.proofs.shipped.ShippedBookBook.judge.Goals as goal
 
 pub returns-in-Mirror : goal.returns-in-Mirror
 returns-in-Mirror c =
-    c.verdict.ensures ∙ ap judgement (mirror-answer c.args.kind.now c.args.word c.args.payload c.type-inv.payload c.in-Mirror.ensures c.parse.ensures)
+    c.verdict.ensures ∙ ap judgement (mirror-answer c.args.kind.now c.args.word c.args.payload c.type_inv.payload c.in-Mirror.ensures c.parse.ensures)
 
 pub returns-in-Nat : goal.returns-in-Nat
 returns-in-Nat c =
-    c.verdict-in-Nat.ensures ∙ ap judgement (nat-answer c.args.kind.now c.args.word c.args.payload c.type-inv.payload c.in-Nat.ensures c.parse-in-Nat.ensures)
+    c.verdict-in-Nat.ensures ∙ ap judgement (nat-answer c.args.kind.now c.args.word c.args.payload c.type_inv.payload c.in-Nat.ensures c.parse-in-Nat.ensures)
 
 pub returns-in-TunnelKey : goal.returns-in-TunnelKey
 returns-in-TunnelKey c =
-    c.verdict-in-TunnelKey.ensures ∙ ap judgement (tunnel_key-answer c.args.kind.now c.args.word c.args.payload c.type-inv.payload c.in-TunnelKey.ensures c.parse-in-TunnelKey.ensures)
+    c.verdict-in-TunnelKey.ensures ∙ ap judgement (tunnel_key-answer c.args.kind.now c.args.word c.args.payload c.type_inv.payload c.in-TunnelKey.ensures c.parse-in-TunnelKey.ensures)

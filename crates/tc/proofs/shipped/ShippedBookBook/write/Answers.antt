@@ -6,7 +6,7 @@ use Rattle.tc.proofs.shipped.ShippedBookBook.write.Goals as goal
 
 pub returns-in-Mirror : goal.returns-in-Mirror
 returns-in-Mirror c =
-    let e = mirror-answer c.args.kind.now c.args.word c.args.payload c.type-inv.payload c.in-Mirror.ensures c.parse.ensures in
+    let e = mirror-answer c.args.kind.now c.args.word c.args.payload c.type_inv.payload c.in-Mirror.ensures c.parse.ensures in
     record {
       value = c.write_option.ensures.value ∙ ap (λ (a : Answer). writes a c.args.memory.now) e;
       after = c.write_option.ensures.after ∙ ap (λ (a : Answer). memory_after_writing a c.args.memory.now) e;
@@ -14,7 +14,7 @@ returns-in-Mirror c =
 
 pub returns-in-Nat : goal.returns-in-Nat
 returns-in-Nat c =
-    let e = nat-answer c.args.kind.now c.args.word c.args.payload c.type-inv.payload c.in-Nat.ensures c.parse-in-Nat.ensures in
+    let e = nat-answer c.args.kind.now c.args.word c.args.payload c.type_inv.payload c.in-Nat.ensures c.parse-in-Nat.ensures in
     record {
       value = c.write_option-in-Nat.ensures.value ∙ ap (λ (a : Answer). writes a c.args.memory.now) e;
       after = c.write_option-in-Nat.ensures.after ∙ ap (λ (a : Answer). memory_after_writing a c.args.memory.now) e;
@@ -22,7 +22,7 @@ returns-in-Nat c =
 
 pub returns-in-TunnelKey : goal.returns-in-TunnelKey
 returns-in-TunnelKey c =
-    let e = tunnel_key-answer c.args.kind.now c.args.word c.args.payload c.type-inv.payload c.in-TunnelKey.ensures c.parse-in-TunnelKey.ensures in
+    let e = tunnel_key-answer c.args.kind.now c.args.word c.args.payload c.type_inv.payload c.in-TunnelKey.ensures c.parse-in-TunnelKey.ensures in
     record {
       value = c.write_option-in-TunnelKey.ensures.value ∙ ap (λ (a : Answer). writes a c.args.memory.now) e;
       after = c.write_option-in-TunnelKey.ensures.after ∙ ap (λ (a : Answer). memory_after_writing a c.args.memory.now) e;
