@@ -19,7 +19,7 @@ returns-in_err-text c =
     let one : type_of a.word ≡ 1 = sym c.kind.ensures ∙ c.if-kind-eq-TCA_ACT_KIND.true in
     let step = found-one c.loop-attribute.attribute-iterator c.next.new.self c.in-Some.attribute a c.in_ok-attribute.was c.in-Some.ensures.steps in
     let t = text-bad a.place a.value.now c.parse_string.result c.context.result c.parse_string.ensures.text c.context.ensures f c.in_err-text.was in
-    let p = err_from_is_err_and c.from-residual-in_err-text.result c.from-residual-in_err-text.ensures.1 in
+    let p = err_from_is_err_and c.from_residual-in_err-text.result c.from_residual-in_err-text.ensures.1 in
     ap kind_heard p.1 ∙ ap (λ (g : Fault). Err (numbers g)) p.2
     ∙ sym (kind-bad home c.loop-attribute.seen a.place a.word a.value.now (ahead c.next.new.self) one (numbers f) t)
     ∙ ap (kind_among home c.loop-attribute.seen) (sym step) ∙ c.loop-attribute.invariant.2
