@@ -1,5 +1,5 @@
 -- An action, as it is read, is read again from what is written. Assumes nothing.
-use Rattle.std.proofs.Common.{◌≡◌, ℕ, zero, suc, ◌+◌, ◌-◌, ◌*◌, ◌/◌, ◌%◌, ◌^◌, ◌<◌, ◌≤◌, Bool, true, false, cond, eqb, ltb, List, [], ◌∷◌, ◌++◌, map, length, get_or, take, drop, Ok, Err, Result, sym, refl, ap, ◌∙◌, subst, arith, length-append, eq-eqb, ne_eqb, eqb-true}
+use Rattle.std.proofs.Common.{◌≡◌, ℕ, zero, suc, ◌+◌, ◌<◌, ◌≤◌, Bool, true, false, eqb, List, [], ◌∷◌, ◌++◌, map, length, get_or, Ok, sym, refl, ap, ◌∙◌, subst, arith, length-append, eqb-true}
 use borrow.Author.Tests.{eqb-false}
 use Rattle.std.proofs.ByRecursion.{All-weaker}
 use Rattle.std.specs.List.{AllByRecursion as All}
@@ -11,7 +11,7 @@ use Rattle.model.specs.Book.{Meaning, BookLaws}
 use Rattle.model.specs.Reading.{each, u32, text, ActionAttribute, kind, options, index, in_hw_count, AttributeForm, attribute_forms, read_as, read_attribute, kinds, the_kind, Action, read_action, as_read}
 use Rattle.model.specs.Writing.{write_attribute, write_action}
 use Rattle.model.proofs.Walk.{walk_of_encode, length-encode}
-use Rattle.model.proofs.Each.{err-not-ok, ok_same, chain, met, Sound, walk_sound, each_all, each-found, all_mapped}
+use Rattle.model.proofs.Each.{err-not-ok, ok_same, chain, walk_sound, each_all, each-found, all_mapped}
 use Rattle.model.proofs.ActionAttributes.{own_kind, Steady, steady}
 
 abbrev pub own_kinds : List ActionAttribute → List Bytes

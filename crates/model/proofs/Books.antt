@@ -1,5 +1,5 @@
 -- The plain and the shipped book keep the laws. Assumes nothing.
-use Rattle.std.proofs.Common.{◌≡◌, ℕ, zero, suc, ◌+◌, ◌-◌, ◌%◌, ◌<◌, ◌≤◌, min, Bool, true, false, cond, eqb, ltb, List, [], ◌∷◌, length, get_or, take, sym, refl, ap, ◌∙◌, subst, arith, length-take, ltb-false, le-ltb, eq-eqb, eqb-true}
+use Rattle.std.proofs.Common.{◌≡◌, ℕ, ◌<◌, ◌≤◌, Bool, true, false, cond, eqb, ltb, [], ◌∷◌, length, get_or, take, sym, refl, ap, ◌∙◌, subst, arith, ltb-false, le-ltb, eq-eqb, eqb-true}
 use Rattle.std.proofs.lemmas.List.{take-take, length-take-le}
 use Rattle.model.specs.Numbers.{Bytes, Octets}
 use Rattle.model.specs.Attributes.{type_of}

@@ -1,5 +1,5 @@
 -- What a card's lists read as, from their bytes and one by one. Assumes nothing.
-use Rattle.std.proofs.Common.{◌≡◌, ℕ, zero, suc, ◌+◌, ◌-◌, ◌*◌, ◌/◌, ◌%◌, ◌^◌, ◌<◌, ◌≤◌, Bool, true, false, cond, eqb, ltb, List, [], ◌∷◌, ◌++◌, map, length, get_or, take, drop, Ok, Err, sym, refl, ap, ◌∙◌, subst, ap₂, arith}
+use Rattle.std.proofs.Common.{◌≡◌, ℕ, zero, suc, ◌+◌, ◌/◌, ◌%◌, Bool, true, false, eqb, List, [], ◌∷◌, map, length, get_or, Ok, sym, refl, ap, ◌∙◌, subst, ap₂}
 use Rattle.std.proofs.lemmas.List.{map-id}
 use Rattle.std.specs.List.{AllByRecursion as All}
 use Rattle.model.specs.Numbers.{Bytes}
@@ -12,7 +12,7 @@ use Rattle.model.specs.Counts.{options_in, actions_of, sum_of}
 use Rattle.model.specs.Card.{ActionItem, CardAction, PageItem, card_action, action_item_attribute, action_items_bytes, card_action_attribute, card_actions_bytes, page_action_item_attribute}
 use Rattle.model.specs.CardReading.{all, action_item_kinds, read_action_item, read_card_action, read_page_item, card_actions_in, options_of}
 use Rattle.model.proofs.Walk.{walk_of_encode}
-use Rattle.model.proofs.Each.{err-not-ok, ok_same, chain, all_mapped}
+use Rattle.model.proofs.Each.{ok_same, chain, all_mapped}
 use Rattle.model.proofs.Placeless.{Also, also_then, also_same, text_also, the_kind_also, as_read_also, attribute_placeless, action_placeless, option_placeless}
 
 -- ── one by one, and from the bytes ──

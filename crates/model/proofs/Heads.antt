@@ -1,9 +1,9 @@
 -- The walk goes from head to head: what it finds at the front of bytes, and where it goes on. Assumes nothing.
-use Rattle.std.proofs.Common.{◌≡◌, ℕ, zero, suc, ◌+◌, ◌-◌, ◌<◌, ◌≤◌, true, false, ltb, List, [], ◌∷◌, length, take, drop, sym, refl, ap, ◌∙◌, arith, length-drop, le-ltb, lt-ltb}
+use Rattle.std.proofs.Common.{◌≡◌, ℕ, zero, suc, ◌+◌, ◌-◌, ◌<◌, ◌≤◌, true, false, ltb, [], ◌∷◌, length, take, drop, refl, ap, ◌∙◌, arith, length-drop, le-ltb, lt-ltb}
 use Rattle.std.proofs.lemmas.List.{drop-drop}
 use Rattle.model.specs.Numbers.{Bytes, number, part, le}
 use Rattle.model.specs.Attributes.{rounded}
-use Rattle.model.specs.Walk.{Walked, done, bad, item, walk_in, walk}
+use Rattle.model.specs.Walk.{Walked, bad, item, walk_in, walk}
 use Rattle.model.specs.Laws.{WalkGoesByHeads}
 use Rattle.model.proofs.Walk.{turn}
 

@@ -1,5 +1,5 @@
 -- One list of a page, in another order, reads as before in that order. Assumes nothing.
-use Rattle.std.proofs.Common.{◌≡◌, ℕ, zero, suc, ◌+◌, ◌-◌, ◌<◌, ◌≤◌, Bool, true, false, cond, eqb, List, [], ◌∷◌, ◌++◌, map, length, Ok, Err, sym, refl, ap, ◌∙◌, subst, ap₂, append_assoc, arith, length-append}
+use Rattle.std.proofs.Common.{◌≡◌, ℕ, zero, suc, ◌+◌, ◌≤◌, Bool, true, false, eqb, List, [], ◌∷◌, ◌++◌, map, length, Ok, sym, refl, ap, ◌∙◌, subst, arith, length-append}
 use Rattle.std.proofs.lemmas.List.{map-id, nil_from_length, take_at}
 use Rattle.std.specs.List.{AllByRecursion as All}
 use Rattle.model.specs.Numbers.{Bytes}
@@ -16,7 +16,7 @@ use Rattle.model.specs.Laws.{OrderIsFree}
 use Rattle.model.proofs.Walk.{length-encode}
 use Rattle.model.proofs.Each.{err-not-ok, ok_same, chain}
 use Rattle.model.proofs.Cards.{Both, GoodActionItem, GoodCardAction, GoodPageItem, action-item-count, card_action_assembled, card_action_good_from, nest_good}
-use Rattle.model.proofs.Steps.{GoodCard, Holds, state_of}
+use Rattle.model.proofs.Steps.{Holds}
 use Rattle.model.proofs.Runs.{run_card, page_reads}
 
 -- ── lists ──

@@ -1,6 +1,5 @@
 -- Every filter that reads is, as it is written, the page of a run. Assumes nothing.
-use Rattle.std.proofs.Common.{◌≡◌, ℕ, zero, suc, ◌+◌, ◌-◌, ◌*◌, ◌/◌, ◌%◌, ◌^◌, ◌<◌, ◌≤◌, Bool, true, false, cond, not, eqb, ltb, List, [], ◌∷◌, ◌++◌, map, reverse, length, get_or, take, drop, Ok, Err, sym, refl, ap, ◌∙◌, subst, ap₂, append_assoc, arith, length-append, le-ltb, eq-eqb, ne_eqb}
-use mathlib.Core.List.{reverse_aux}
+use Rattle.std.proofs.Common.{◌≡◌, ℕ, zero, suc, ◌+◌, ◌-◌, ◌*◌, ◌<◌, ◌≤◌, true, false, cond, eqb, ltb, List, [], ◌∷◌, ◌++◌, map, length, get_or, Ok, sym, refl, ap, ◌∙◌, subst, append_assoc, arith, length-append, le-ltb, eq-eqb, ne_eqb}
 use Rattle.std.proofs.lemmas.List.{append-nil, take_at, map-id}
 use Rattle.std.specs.List.{flat_map, AllByRecursion as All}
 use Rattle.model.specs.Numbers.{Bytes, Octets, part}
@@ -18,14 +17,13 @@ use Rattle.model.specs.Card.{ActionItem, CardAction, PageItem, card_action, Card
 use Rattle.model.specs.Building.{put_of, attribute_turns, action_turns, option_turns, reading_turns}
 use Rattle.model.specs.Laws.{EveryFilterIsAPage}
 use Rattle.model.specs.Selector as selectors
-use Rattle.model.proofs.Walk.{length-encode}
 use Rattle.model.proofs.Each.{octets_append, octets_bytes, chain}
 use Rattle.model.proofs.Cards.{assembled}
 use Rattle.model.proofs.Placeless.{action_placeless}
-use Rattle.model.proofs.ActionAttributes.{Steady, Known}
+use Rattle.model.proofs.ActionAttributes.{Steady}
 use Rattle.model.proofs.Actions.{SteadyAction, action_again, all_short, all_both}
 use Rattle.model.proofs.RoundTrip.{SteadyOption, all_steady, read_inside}
-use Rattle.model.proofs.Steps.{heads_of, page_of, state_of, GoodCard, Holds, step, behind, put-length, rounded-all}
+use Rattle.model.proofs.Steps.{page_of, state_of, GoodCard, Holds, step, behind, put-length, rounded-all}
 
 -- ── the card that the calls fill ──
 abbrev attribute_action_item : ActionAttribute → ActionItem

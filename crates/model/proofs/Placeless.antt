@@ -1,5 +1,5 @@
 -- Whether bytes read, and as what, does not depend on the place where they stand. Assumes nothing.
-use Rattle.std.proofs.Common.{◌≡◌, ℕ, zero, suc, ◌+◌, ◌-◌, ◌*◌, ◌/◌, ◌%◌, ◌^◌, ◌<◌, ◌≤◌, Bool, true, false, cond, eqb, ltb, List, [], ◌∷◌, ◌++◌, map, length, get_or, take, drop, Ok, Err, sym, refl, ap, ◌∙◌, subst, arith}
+use Rattle.std.proofs.Common.{◌≡◌, ℕ, zero, suc, ◌+◌, ◌-◌, ◌/◌, ◌%◌, Bool, true, false, cond, eqb, ltb, List, [], ◌∷◌, length, get_or, drop, Ok, Err, refl, ap, ◌∙◌, subst}
 use Rattle.model.specs.Numbers.{Bytes, number}
 use Rattle.model.specs.Faults.{Read, ◌>>=◌, FaultNumbers, fault, needing}
 use Rattle.model.specs.Attributes.{rounded, type_of}
@@ -8,7 +8,7 @@ use Rattle.model.specs.Text.{is_text, stripped}
 use Rattle.model.specs.Selector.{wanted, decode}
 use Rattle.model.specs.Book.{Meaning, Answer, accept, refuse}
 use Rattle.model.specs.Reading.{each, u32, text, read_selector, as_read, kind, options, AttributeForm, attribute_forms, read_as, read_attribute, kinds, the_kind, read_action, OptionForm, option_forms, class_id, selector, actions, read_option_as, read_option}
-use Rattle.model.proofs.Each.{err-not-ok, ok_same, chain}
+use Rattle.model.proofs.Each.{err-not-ok, chain}
 
 abbrev pub Alike : Walked → Walked → Type 0
 Alike done done = Unit {0}

@@ -1,5 +1,5 @@
 -- A selector, as it is read, is read again from what is written. Assumes nothing.
-use Rattle.std.proofs.Common.{◌≡◌, ℕ, zero, suc, ◌+◌, ◌-◌, ◌*◌, ◌/◌, ◌%◌, ◌^◌, ◌<◌, ◌≤◌, Bool, true, false, cond, ltb, List, [], ◌∷◌, ◌++◌, map, reverse, length, take, drop, ℤ, pos, negsuc, Ok, Err, sym, refl, ap, ◌∙◌, subst, arith, length-append, length-take, ltb-false, le-ltb}
+use Rattle.std.proofs.Common.{◌≡◌, ℕ, zero, suc, ◌+◌, ◌-◌, ◌*◌, ◌^◌, ◌<◌, ◌≤◌, Bool, true, false, cond, ltb, List, [], ◌∷◌, ◌++◌, reverse, length, take, drop, ℤ, pos, negsuc, Ok, Err, sym, refl, ap, ◌∙◌, subst, arith, length-take, le-ltb}
 use mathlib.Core.List.{reverse_aux}
 use native.Mathlib.Nat.{pow-le-pow_right}
 use lib.ListN.{length-reverse}

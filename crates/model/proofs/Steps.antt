@@ -1,5 +1,5 @@
 -- Each call keeps the page and its card together. Assumes nothing.
-use Rattle.std.proofs.Common.{◌≡◌, ℕ, zero, suc, ◌+◌, ◌-◌, ◌*◌, ◌/◌, ◌%◌, ◌^◌, ◌<◌, ◌≤◌, Bool, true, false, cond, not, eqb, ltb, List, [], ◌∷◌, ◌++◌, map, length, take, drop, Ok, Err, sym, refl, ap, ◌∙◌, subst, ap₂, append_assoc, arith, length-append, length-drop, ltb-false, ltb-true, eqb-true}
+use Rattle.std.proofs.Common.{◌≡◌, ℕ, ◌+◌, ◌-◌, ◌<◌, ◌≤◌, Bool, true, false, not, eqb, ltb, List, [], ◌∷◌, ◌++◌, map, length, take, drop, Ok, Err, sym, refl, ap, ◌∙◌, subst, ap₂, append_assoc, arith, length-append, length-drop, ltb-false, eqb-true}
 use borrow.Author.Tests.{eqb-false}
 use Rattle.std.proofs.ByRecursion.{All-push}
 use Rattle.std.proofs.lemmas.List.{append-nil, take_at, drop_at, drop-drop}
@@ -13,7 +13,7 @@ use Rattle.model.specs.Reading.{read_action, read_attribute, read_option}
 use Rattle.model.specs.Page.{Page, Call, put, open_nest, close, strike, InRange, check, only_fault, over, verdict, page_after, memory_after, State, state}
 use Rattle.model.specs.Card.{ActionItem, PageItem, card_action, Card, level0, level1, level2, level3, feed, action_item_attribute, action_items_bytes, card_action_attribute, card_actions_bytes, page_action_item_attribute, page_items_bytes, card_bytes}
 use Rattle.model.proofs.Walk.{length-encode}
-use Rattle.model.proofs.Each.{err-not-ok, ok_same, chain}
+use Rattle.model.proofs.Each.{err-not-ok, chain}
 use Rattle.model.proofs.Cards.{GoodActionItem, GoodCardAction, GoodPageItem, card_action_good, leaf_good, nest_good}
 
 -- ── bytes ──

@@ -1,5 +1,5 @@
 -- A book judges action options: it says what is written of an option, or refuses it. Assumes nothing.
-use Rattle.std.specs.Prelude.{◌≡◌, ℕ, ◌<◌, ◌≤◌, Bool, true, false, cond, ◌&&◌, T, List, [], ◌∷◌, length, ◌==◌}
+use Rattle.std.specs.Prelude.{◌≡◌, ℕ, ◌<◌, ◌≤◌, Bool, true, false, cond, length, ◌==◌}
 use Rattle.model.specs.Numbers.{Bytes, Octets}
 
 -- the word and payload that are written, or a refusal of two numbers

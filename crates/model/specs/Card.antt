@@ -1,5 +1,5 @@
 -- The card of a run: what was put and opened, as lists, with no bytes and no memory. Assumes nothing.
-use Rattle.std.specs.Prelude.{ℕ, zero, suc, ◌+◌, Bool, true, false, eqb, List, [], ◌∷◌, ◌++◌, map, length, Ok, Err}
+use Rattle.std.specs.Prelude.{ℕ, ◌+◌, Bool, true, false, List, [], ◌∷◌, ◌++◌, map, length}
 use Rattle.model.specs.Numbers.{Bytes}
 use Rattle.model.specs.Attributes.{Attribute, attribute, head, encode_all}
 use Rattle.model.specs.Book.{Meaning}

@@ -1,5 +1,5 @@
 -- What a card reads as: the page's list one by one, and its counts. Its places are nobody's, so 0 stands for each. Assumes nothing.
-use Rattle.std.specs.Prelude.{ℕ, true, false, List, [], ◌∷◌, length, Ok, Err, ◌==◌}
+use Rattle.std.specs.Prelude.{ℕ, true, false, List, [], ◌∷◌, length, Ok, ◌==◌}
 use Rattle.model.specs.Numbers.{Bytes}
 use Rattle.model.specs.Faults.{Read, ◌>>=◌}
 use Rattle.model.specs.Attributes.{type_of}

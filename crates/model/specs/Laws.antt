@@ -1,5 +1,5 @@
 -- What is claimed of reading, writing out and the page: for every book's meaning that keeps the laws. Assumes nothing.
-use Rattle.std.specs.Prelude.{◌≡◌, ℕ, ◌+◌, ◌-◌, ◌<◌, ◌≤◌, List, [], ◌∷◌, ◌++◌, length, drop, Ok, Err}
+use Rattle.std.specs.Prelude.{◌≡◌, ℕ, ◌+◌, ◌-◌, ◌<◌, ◌≤◌, List, [], length, drop, Ok, Err}
 use Rattle.std.specs.List.{AllByRecursion as All}
 use Rattle.model.specs.Numbers.{Bytes, Octets, part, le}
 use Rattle.model.specs.Faults.{fault}

@@ -1,5 +1,5 @@
 -- Outcomes and mirror actions by name, and the outcome that any parameter record tells. Assumes nothing.
-use Rattle.std.specs.Prelude.{◌≡◌, ℕ, ◌≤◌, List, [], ◌∷◌, length, ℤ, pos, negsuc, slice_index_or}
+use Rattle.std.specs.Prelude.{◌≡◌, ◌≤◌, List, [], ◌∷◌, length, ℤ, pos, negsuc, slice_index_or}
 use Rattle.std.specs.List.{AllByRecursion as All}
 use Rattle.model.specs.Numbers.{Bytes, signed}
 use Rattle.model.specs.Records.{Generic, TunnelKey, Mirror, Nat, Layout, generic, tunnel_key, mirror, nat}

@@ -1,5 +1,5 @@
 -- The page, on which a filter is put together call by call: what each call checks and does. Assumes nothing.
-use Rattle.std.specs.Prelude.{ℕ, zero, suc, ◌+◌, ◌-◌, ◌<◌, ◌≤◌, Bool, true, false, cond, not, List, [], ◌∷◌, ◌++◌, length, take, drop, Ok, Err, Result, ◌==◌, nat_lt}
+use Rattle.std.specs.Prelude.{ℕ, zero, suc, ◌+◌, ◌-◌, ◌<◌, Bool, true, false, cond, not, List, [], ◌∷◌, ◌++◌, length, take, drop, Ok, Err, ◌==◌, nat_lt}
 use Rattle.model.specs.Numbers.{Bytes, Octets, le_bytes, part}
 use Rattle.model.specs.Faults.{FaultNumbers, fault, needing, Read, ◌>>=◌}
 use Rattle.model.specs.Attributes.{type_of, rounded, attribute, head, encode}

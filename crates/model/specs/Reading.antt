@@ -1,5 +1,5 @@
 -- What a filter reads as, and the fault where it does not. Assumes nothing.
-use Rattle.std.specs.Prelude.{◌≡◌, ℕ, zero, suc, ◌+◌, ◌*◌, ◌/◌, ◌%◌, ◌<◌, ◌≤◌, Bool, true, false, cond, List, [], ◌∷◌, ◌++◌, length, Ok, Err, ◌==◌, nat_lt, slice_index_or}
+use Rattle.std.specs.Prelude.{ℕ, ◌+◌, ◌/◌, ◌%◌, true, false, cond, List, [], ◌∷◌, length, Ok, Err, ◌==◌, nat_lt, slice_index_or}
 use Rattle.model.specs.Numbers.{Bytes, number}
 use Rattle.model.specs.Faults.{fault, needing, refused, Read, ◌>>=◌}
 use Rattle.model.specs.Attributes.{type_of, Attribute, attribute}

@@ -1,5 +1,5 @@
 -- The six records: their fields, which bytes hold them, and the bytes written. Assumes nothing.
-use Rattle.std.specs.Prelude.{◌≡◌, ℕ, ◌≤◌, List, [], ◌∷◌, ◌++◌, length, get_or, take, ℤ, pos, negsuc}
+use Rattle.std.specs.Prelude.{◌≡◌, ℕ, ◌≤◌, ◌++◌, length, take, ℤ}
 use Rattle.model.specs.Numbers.{Bytes, Octets, le, be, signed, le_bytes, be_bytes, signed_bytes}
 
 pub record Key : Type 0 where

@@ -2,7 +2,7 @@
 use Rattle.std.specs.Prelude.{◌≡◌, ℕ, zero, suc, ◌+◌, ◌-◌, ◌<◌, ◌≤◌, ◌⊎◌, List, [], ◌∷◌, ◌++◌, map, length, Ok, Err, IsUtf8, slice_index}
 use Rattle.model.specs.Numbers.{Bytes, Octets, part}
 use Rattle.model.specs.Faults.{FaultNumbers, fault, Read}
-use Rattle.model.specs.Attributes.{type_of, rounded, Attribute}
+use Rattle.model.specs.Attributes.{type_of, rounded}
 use Rattle.model.specs.Walk.{Walked, done, bad, item, walk}
 use Rattle.model.specs.Text.{stripped}
 use Rattle.model.specs.Selector.{wanted}

@@ -1,5 +1,5 @@
 -- The selector of a filter: 16 bytes, then its keys. Assumes nothing.
-use Rattle.std.specs.Prelude.{ℕ, zero, suc, ◌+◌, ◌*◌, List, [], ◌∷◌, ◌++◌, map, drop, ℤ}
+use Rattle.std.specs.Prelude.{ℕ, zero, suc, ◌+◌, ◌*◌, List, [], ◌∷◌, ◌++◌, drop, ℤ}
 use Rattle.model.specs.Numbers.{Bytes, le, be, signed, le_bytes, be_bytes, signed_bytes}
 use Rattle.model.specs.Records.{Key, key}
 

@@ -1,5 +1,5 @@
 -- UTF-8 by RFC 3629, section 4, as a grammar and as a test that takes the bytes one after another. Assumes nothing.
-use Rattle.std.specs.Prelude.{◌≡◌, ℕ, zero, suc, ◌≤◌, Bool, true, false, cond, ◌&&◌, T, List, [], ◌∷◌, ◌++◌, IsUtf8, ◌==◌, nat_le, nat_lt}
+use Rattle.std.specs.Prelude.{◌≡◌, ℕ, zero, suc, ◌≤◌, Bool, true, false, cond, ◌&&◌, T, [], ◌∷◌, ◌++◌, IsUtf8, ◌==◌, nat_le, nat_lt}
 use Rattle.model.specs.Numbers.{Bytes}
 
 -- a character's length by its first byte, 0 where none begins so: the rule of the table of 256

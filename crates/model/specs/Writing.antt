@@ -1,5 +1,5 @@
 -- The written form of a reading, and when writing out is refused. Assumes nothing.
-use Rattle.std.specs.Prelude.{◌≡◌, ℕ, ◌+◌, ◌*◌, ◌≤◌, Bool, true, false, cond, List, [], ◌∷◌, ◌++◌, map, length, take, drop, Ok, Err, nat_lt, slice_index}
+use Rattle.std.specs.Prelude.{◌≡◌, ℕ, ◌+◌, ◌*◌, ◌≤◌, cond, [], ◌∷◌, ◌++◌, map, length, take, drop, Ok, Err, nat_lt, slice_index}
 use Rattle.model.specs.Numbers.{Bytes, le_bytes}
 use Rattle.model.specs.Faults.{FaultNumbers, fault, Read, ◌>>=◌}
 use Rattle.model.specs.Attributes.{Attribute, attribute, encode_all}

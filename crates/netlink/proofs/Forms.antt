@@ -1,8 +1,8 @@
 -- The form that an attribute is written in, its size, and the buffer that it is written into. Assumes nothing.
-use Rattle.std.proofs.Common.{◌≡◌, ℕ, ◌+◌, ◌-◌, ◌<◌, ◌≤◌, Bool, true, false, cond, ltb, List, [], ◌∷◌, ◌++◌, length, take, drop, replicate, Ok, Err, Result, sym, refl, ap, ◌∙◌, zero-add, arith}
+use Rattle.std.proofs.Common.{◌≡◌, ℕ, ◌+◌, ◌-◌, ◌≤◌, Bool, true, false, cond, ltb, [], ◌∷◌, ◌++◌, length, take, drop, replicate, Ok, Err, Result, sym, refl, ap, ◌∙◌, zero-add, arith}
 use Rattle.std.proofs.lemmas.Bool.{le-ltb, ltb-false, cond-false}
 use Rattle.model.specs.Numbers.{Bytes}
-use Rattle.model.specs.Attributes.{rounded, attribute, head, padded, encode}
+use Rattle.model.specs.Attributes.{rounded, attribute, head, encode}
 use Rattle.model.specs.Page.{over}
 use Rattle.model.proofs.Walk.{length-encode}
 use Rattle.netlink.specs.Emission.{attribute_form, form_length, emission, buffer_after}

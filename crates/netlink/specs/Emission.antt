@@ -1,5 +1,5 @@
 -- What writing a value into a buffer answers, and what the buffer holds then. Assumes nothing.
-use Rattle.std.specs.Prelude.{ℕ, ◌+◌, cond, List, ◌++◌, length, drop, Ok, Err, Result, nat_le, nat_lt}
+use Rattle.std.specs.Prelude.{ℕ, ◌+◌, cond, ◌++◌, length, drop, Ok, Err, Result, nat_le, nat_lt}
 use Rattle.model.specs.Numbers.{Bytes}
 use Rattle.model.specs.Faults.{cause_number}
 use Rattle.model.specs.Attributes.{attribute, encode}

@@ -1,7 +1,7 @@
 -- What the walker finds is what the model's walk finds, head by head. Assumes nothing.
 use Rattle.std.specs.Prelude.{◌≡◌, ℕ, ◌+◌, ◌-◌, ◌<◌, ◌≤◌, [], length, Some, None, Ok, Err, Option, Result}
 use Rattle.model.specs.Numbers.{Bytes}
-use Rattle.model.specs.Faults.{FaultNumbers, fault, numbers, layer_number}
+use Rattle.model.specs.Faults.{fault, numbers, layer_number}
 use Rattle.model.specs.Walk.{Walked, done, bad, item, walk}
 use Rattle.model.specs.declared.fault.Fault.{Fault}
 use Rattle.netlink.specs.declared.buffer.NlaBuffer.{NlaBuffer}

@@ -1,4 +1,6 @@
 // Netlink attributes: walking them and writing them. The readers of their payloads are passed on.
+#![tactic(auto)]
+
 pub mod buffer;
 pub mod default_nla;
 pub mod nla;

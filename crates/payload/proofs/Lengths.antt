@@ -1,5 +1,5 @@
 -- The table of 256 first-byte lengths follows the rule, shown by one computed test over the whole table. Assumes nothing.
-use Rattle.std.proofs.Common.{◌≡◌, ℕ, ◌+◌, ◌*◌, ◌/◌, ◌%◌, ◌<◌, Bool, ◌&&◌, T, eqb, List, [], ◌∷◌, ◌++◌, length, get_or, replicate, ap, ◌∙◌, subst, arith, eqb→eq}
+use Rattle.std.proofs.Common.{◌≡◌, ℕ, ◌+◌, ◌*◌, ◌/◌, ◌%◌, ◌<◌, Bool, ◌&&◌, T, eqb, List, [], ◌∷◌, ◌++◌, length, get_or, replicate, ap, ◌∙◌, arith, eqb→eq}
 use Rattle.model.specs.Text.{first_length}
 use Rattle.payload.proofs.Table.{every, at, left_of, right_of}
 

@@ -1,6 +1,5 @@
 -- A payload's error, and the fault that it is where the payload stands. Assumes nothing.
 use Rattle.std.specs.Prelude.{ℕ, Ok, Err, Result}
-use Rattle.model.specs.declared.fault.Cause.{Cause}
 use Rattle.model.specs.declared.fault.Layer.{Layer}
 use Rattle.model.specs.declared.fault.Fault.{Fault}
 use Rattle.model.specs.Faults.{cause_number}

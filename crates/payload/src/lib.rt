@@ -1,4 +1,6 @@
 // Readers of an attribute's payload: integers, addresses and text.
+#![tactic(auto)]
+
 pub mod error;
 pub mod ip;
 pub mod parsers;

@@ -1,9 +1,10 @@
--- One book over another keeps the laws where both do. Assumes nothing.
-use Rattle.std.specs.Prelude.{ℕ, Bool, true, false, cond}
+-- One book over another keeps the laws where both do, and the book that refuses everything keeps them. Assumes nothing.
+use Rattle.std.specs.Prelude.{◌≡◌, ℕ, Bool, true, false, cond}
+use Rattle.std.proofs.Common.{arith}
 use Rattle.std.specs.Str.{bytes_eq}
 use Rattle.model.specs.Numbers.{Bytes}
-use Rattle.model.specs.Book.{Answer, Meaning, BookLaws}
-use Rattle.tc.specs.Piles.{piled}
+use Rattle.model.specs.Book.{Answer, refuse, Meaning, BookLaws}
+use Rattle.tc.specs.Piles.{piled, closed}
 
 -- a book under one kind
 abbrev Under : Type 0
@@ -38,3 +39,12 @@ picked false f g a b = b
 pub piled_laws : (kind : Bytes) (top below : Meaning) → BookLaws top → BookLaws below → BookLaws (piled kind top below)
 piled_laws kind top below l m =
     under_each (piled kind top below) (λ k. picked (bytes_eq k kind) (top k) (below k) (under top l k) (under below m k))
+
+pub closed_laws : BookLaws closed
+closed_laws = record {
+  shorter = λ k w x w' x' e. cc;
+  settled = λ k w x w' x' e. cc;
+  word16 = λ k w x w' x' h e. cc;
+  octets = λ k w x w' x' o e. cc;
+  numbered = λ k w x n need e. let same : 7 ≡ n = cc in (omega arith, omega arith);
+}

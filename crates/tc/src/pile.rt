@@ -2,8 +2,7 @@
 ghost use Rattle.std.specs.Prelude.{◌≡◌, codes};
 ghost use Rattle.std.specs.Str.{bytes_eq};
 ghost use Rattle.tc.specs.Piles.{closed, piled};
-ghost use Rattle.tc.specs.PilesLemmas.{piled_laws};
-ghost use Rattle.std.proofs.Common.{rules};
+ghost use Rattle.tc.specs.PilesLemmas.{piled_laws, closed_laws};
 
 use crate::book::{Book, Judged, Refusal};
 use crate::plain::PlainBook;
@@ -20,7 +19,7 @@ struct Over<F, B> {
 fn is_gact(kind: &[u8]) -> bool
     ensures { result ≡ bytes_eq kind.now (codes "gact") }
 {
-    kind == b"gact"
+    kind == b"gact".as_slice()
 }
 
 impl<F: Book, B: Book> Book for Over<F, B> {
@@ -52,7 +51,7 @@ struct ClosedBook;
 impl Book for ClosedBook {
     ghost meaning = { λ _. closed };
 
-    ghost lawful = { Prim.search rules };
+    ghost lawful = { λ _. closed_laws };
 
     fn judge(&self, kind: &[u8], word: u16, payload: &[u8]) -> Result<Judged, Refusal> {
         Err(Refusal { number: 7, need: 0 })

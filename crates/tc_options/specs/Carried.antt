@@ -1,5 +1,5 @@
 -- A value that was read, in a case of an option. Assumes nothing.
-use Rattle.std.specs.Prelude.{ℕ, Ok, Err, Result}
+use Rattle.std.specs.Prelude.{Ok, Err, Result}
 use Rattle.model.specs.Numbers.{Bytes}
 use Rattle.model.specs.Records.{Layout}
 use Rattle.payload.specs.Errors.{Lack}

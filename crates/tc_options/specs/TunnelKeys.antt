@@ -1,9 +1,9 @@
 -- The options of a tunnel key action: what an attribute reads as, and the word and payload that an option means. Assumes nothing.
-use Rattle.std.specs.Prelude.{ℕ, Bool, cond, not, [], ◌∷◌, Ok, Err, Result, ◌==◌}
+use Rattle.std.specs.Prelude.{ℕ, cond, not, [], ◌∷◌, Ok, Result, ◌==◌}
 use Rattle.model.specs.Numbers.{Bytes, le, be, be_bytes}
 use Rattle.model.specs.Attributes.{type_of}
 use Rattle.model.specs.Records.{times, tunnel_key}
-use Rattle.payload.specs.Errors.{Lack, lack}
+use Rattle.payload.specs.Errors.{Lack}
 use Rattle.payload.specs.Payloads.{exactly, address}
 use Rattle.payload.specs.declared.ip.Ipv6Addr.{Ipv6Addr}
 use Rattle.netlink.specs.declared.buffer.NlaBuffer.{NlaBuffer}

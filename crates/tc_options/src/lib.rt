@@ -1,4 +1,6 @@
 // The options of the actions that are known by their kind: what they are, and how they are written.
+#![tactic(auto)]
+
 pub mod mirror;
 pub mod nat;
 pub mod tunnel_key;

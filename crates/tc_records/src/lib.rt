@@ -1,4 +1,6 @@
 // The records of traffic control: fixed layouts of numbers, their names, and the selector.
+#![tactic(auto)]
+
 pub mod action;
 pub mod cls_u32;
 mod fields;

@@ -1,4 +1,6 @@
 // Walks a sample mirror entry in two spellings, writes each again, and says what differs.
+#![tactic(auto)]
+
 mod fields;
 mod judging;
 mod listing;

@@ -1,4 +1,4 @@
-use Rattle.std.proofs.Common.{◌≡◌, ◌<◌, ◌≤◌, length, sym, refl, ap, ◌∙◌, subst, arith, rules}
+use Rattle.std.proofs.Common.{◌≡◌, ◌<◌, length, sym, refl, ap, ◌∙◌, subst, arith, rules}
 use Rattle.model.specs.Faults.{cause_number, layer_number, numbers, fault}
 use Rattle.model.specs.Walk.{bad}
 use Rattle.model.specs.declared.fault.Fault.{Fault}

@@ -1,4 +1,4 @@
-use Rattle.std.proofs.Common.{◌≡◌, length, refl, ap, ◌∙◌, arith, rules}
+use Rattle.std.proofs.Common.{◌≡◌, length, refl, arith}
 use Rattle.model.specs.Numbers.{le_bytes}
 use Rattle.tc_records.proofs.Written.{none, more, filled, written-whole}
 use Rattle.tc_records.proofs.action.TcfRecord.write.Goals as goal

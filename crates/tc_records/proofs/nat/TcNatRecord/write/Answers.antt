@@ -1,4 +1,4 @@
-use Rattle.std.proofs.Common.{◌≡◌, length, refl, ap, ◌∙◌, arith, rules}
+use Rattle.std.proofs.Common.{◌≡◌, length, refl, arith}
 use Rattle.model.specs.Numbers.{be_bytes, le_bytes}
 use Rattle.model.specs.Records.{generic}
 use Rattle.tc_records.specs.Layouts.{as_generic}
