@@ -1,5 +1,5 @@
 -- What each family's options tell is the shipped book's answer. Assumes nothing.
-use Rattle.std.proofs.Common.{◌≡◌, ℕ, zero, suc, Bool, true, false, cond, List, [], length, get_or, codes, Result, sym, refl, ap, ◌∙◌, arith, w8, Fits, Bor}
+use Rattle.std.proofs.Common.{◌≡◌, ℕ, zero, suc, Bool, true, false, cond, List, [], get_or, codes, Result, sym, refl, ap, ◌∙◌, arith, w8, Fits, Bor}
 use Rattle.std.specs.Str.{bytes_eq}
 use Rattle.std.proofs.lemmas.Bool.{ne_eqb}
 use Rattle.model.specs.Numbers.{Bytes, Octets, le, be}

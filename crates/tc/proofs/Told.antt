@@ -1,16 +1,14 @@
 -- What an option that was read tells a book is what the shipped book's table says of its form. Assumes nothing.
-use Rattle.std.proofs.Common.{◌≡◌, ℕ, ◌+◌, ◌*◌, ◌<◌, ◌≤◌, Bool, true, false, cond, not, eqb, ltb, List, [], ◌∷◌, length, get_or, take, Ok, Err, sym, refl, ap, ◌∙◌, arith, w8, Fits, ltb-false, eqb-true}
-use Rattle.std.specs.List.{AllByRecursion as All}
+use Rattle.std.proofs.Common.{◌≡◌, ℕ, ◌+◌, ◌*◌, ◌<◌, ◌≤◌, Bool, true, false, cond, not, eqb, ltb, [], ◌∷◌, length, get_or, take, Ok, Err, refl, ap, ◌∙◌, arith, w8, Fits, ltb-false, eqb-true}
 use Rattle.std.proofs.ByRecursion.{All-from_get_or}
 use Rattle.std.proofs.lemmas.List.{take_all}
-use Rattle.model.specs.Numbers.{Bytes, Octets, number, le, be, be_bytes}
+use Rattle.model.specs.Numbers.{Bytes, Octets, le, be, be_bytes}
 use Rattle.model.specs.Records.{Layout, Lawful}
-use Rattle.model.specs.Book.{Answer, accept, refuse}
+use Rattle.model.specs.Book.{accept, refuse}
 use Rattle.model.specs.Shipped.{truth}
 use Rattle.model.proofs.RecordLaws.{be_back}
 use Rattle.payload.specs.Errors.{lack}
 use Rattle.payload.specs.Payloads.{exactly}
-use Rattle.tc_records.specs.Reading.{at_least}
 use Rattle.tc_options.specs.Carried.{carried, record_in}
 use Rattle.tc.specs.Families.{told}
 

@@ -3,7 +3,7 @@ use Rattle.std.specs.Prelude.{◌≡◌, ℕ, Bool, true, false, cond}
 use Rattle.std.proofs.Common.{arith}
 use Rattle.std.specs.Str.{bytes_eq}
 use Rattle.model.specs.Numbers.{Bytes}
-use Rattle.model.specs.Book.{Answer, refuse, Meaning, BookLaws}
+use Rattle.model.specs.Book.{Answer, Meaning, BookLaws}
 use Rattle.tc.specs.Piles.{piled, closed}
 
 -- a book under one kind

@@ -31,10 +31,6 @@ pub trait Book {
     /// What the book answers for a kind text, a word and a payload.
     ghost meaning: { Self → Meaning };
 
-    /// What is written is no longer than what was asked about, and asked about itself it is accepted and written as it is. It is a 16-bit
-    /// word and bytes where the question is. A refusal's number is from 1 to 255.
-    ghost lawful: { (b : Self) → BookLaws (meaning b) };
-
     /// The word that is written and its payload's length, or the refusal.
     fn judge(&self, kind: &[u8], word: u16, payload: &[u8]) -> Result<Judged, Refusal>
         ensures { judged result ≡ judgement (meaning self.now kind.now word payload.now) };
@@ -44,4 +40,8 @@ pub trait Book {
     fn write(&self, kind: &[u8], word: u16, payload: &[u8], memory: &mut [u8]) -> bool
         ensures value { result ≡ writes (meaning self.now kind.now word payload.now) memory.old }
         ensures after { memory.new ≡ memory_after_writing (meaning self.now kind.now word payload.now) memory.old };
+
+    /// What is written is no longer than what was asked about, and asked about itself it is accepted and written as it is. It is a 16-bit
+    /// word and bytes where the question is. A refusal's number is from 1 to 255.
+    ghost lawful: { (b : Self) → BookLaws (meaning b) };
 }

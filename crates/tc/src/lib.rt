@@ -1,4 +1,6 @@
 // Traffic control filters: so far the books, which judge action options.
+#![tactic(auto)]
+
 pub mod book;
 #[cfg(test)]
 mod pile;

@@ -12,10 +12,10 @@ use crate::record::Record;
 pub trait ParameterRecord: Record {
     ghost head: { Self → TcActionGeneric };
 
-    ghost common: { (bs : List ℕ) → head (Self.Record.decode bs) ≡ of_generic (generic.decode bs) };
-
     fn generic(&self) -> TcActionGeneric
         ensures { result ≡ head self.now };
+
+    ghost common: { (bs : List ℕ) → head (Self.Record.decode bs) ≡ of_generic (generic.decode bs) };
 }
 
 /// What becomes of a packet after an action with these parameters.

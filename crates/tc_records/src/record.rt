@@ -17,10 +17,6 @@ pub trait Record: Sized {
     /// What is written.
     ghost encode: { Self → List ℕ };
 
-    ghost whole: { (bs : List ℕ) → Octets bs → width ≤ length bs → encode (decode bs) ≡ take width bs };
-
-    ghost sized: { (x : Self) → length (encode x) ≡ width };
-
     /// The layout's size.
     fn size() -> usize
         ensures { result ≡ width };
@@ -33,6 +29,10 @@ pub trait Record: Sized {
     fn write(&self, buffer: &mut [u8]) -> bool
         ensures value { result ≡ (length buffer.old == width) }
         ensures after { buffer.new ≡ (if nat_eq (length buffer.old) width then encode self.now else buffer.old) };
+
+    ghost whole: { (bs : List ℕ) → Octets bs → width ≤ length bs → encode (decode bs) ≡ take width bs };
+
+    ghost sized: { (x : Self) → length (encode x) ≡ width };
 }
 
 /// The one reader of records: a payload of at least the record's size, else cause 13 with that size as need.

@@ -1,4 +1,4 @@
-use Rattle.std.proofs.Common.{sym, ap, ◌∙◌}
+use Rattle.std.proofs.Common.{ap, ◌∙◌}
 use Rattle.model.specs.Book.{judgement}
 use Rattle.tc.proofs.Families.{mirror-answer, nat-answer, tunnel_key-answer}
 use Rattle.tc.proofs.shipped.ShippedBookBook.judge.Goals as goal

@@ -1,6 +1,5 @@
-use Rattle.std.proofs.Common.{◌≡◌, ap, ◌∙◌}
+use Rattle.std.proofs.Common.{ap, ◌∙◌}
 use Rattle.model.specs.Book.{Answer, writes, memory_after_writing}
-use Rattle.model.specs.Shipped.{shipped}
 use Rattle.tc.proofs.Families.{mirror-answer, nat-answer, tunnel_key-answer}
 use Rattle.tc.proofs.shipped.ShippedBookBook.write.Goals as goal
 
