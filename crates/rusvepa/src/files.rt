@@ -1,6 +1,6 @@
 // Filters from files.
-use hex::decoding::{HexError, decode};
-use hex::plain_text::without_remarks;
+use hexadecimal::decoding::{HexError, decode};
+use hexadecimal::plain_text::without_remarks;
 use model::fault::Fault;
 use std::alloc::AllocError;
 use std::fmt::Display;

@@ -2,9 +2,9 @@
 use crate::files::Trouble;
 use crate::writing::write_form;
 use filter::reading::{Counts, read};
-use hex::decoding::decode;
-use hex::encoding::encode;
-use hex::plain_text::trimmed;
+use hexadecimal::decoding::decode;
+use hexadecimal::encoding::encode;
+use hexadecimal::plain_text::trimmed;
 use std::alloc::Global;
 use std::io;
 use std::io::{BufRead, BufReader, Write};

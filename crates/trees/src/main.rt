@@ -1,6 +1,6 @@
 // The reading of each line of the standard input, which is a filter in hexadecimal: a tree, or why there is none.
-use hex::decoding::decode;
-use hex::plain_text::trimmed;
+use hexadecimal::decoding::decode;
+use hexadecimal::plain_text::trimmed;
 use std::io;
 use std::io::{BufRead, BufReader, BufWriter, Write};
 use tree::whole::Reading;

@@ -18,12 +18,12 @@ pub returns-in_err-nla : goal.returns-in_err-nla
 returns-in_err-nla g c =
     let f = c.in_err-nla.field-0.0 in
     let step = broke c.loop-nla.nla-iterator c.next.new.self c.in-Some.nla f c.in_err-nla.was c.in-Some.ensures.steps in
-    let p = err_from_is_err_and c.from-residual.result c.from-residual.ensures.1 in
+    let p = err_from_is_err_and c.from_residual.result c.from_residual.ensures.1 in
     record {
       value = ap answered p.1 ∙ ap (λ (h : Fault). Err (numbers h)) p.2
           ∙ tally_broken c.loop-nla.tally c.args.walk.layer (g.F.Form.reads c.args.form.now) c.loop-nla.nla-iterator c.next.new.self f step c.loop-nla.invariant.4
           ∙ c.loop-nla.invariant.2;
-      bounds = IfOk-from_err c.from-residual.result _ c.from-residual.ensures.0;
+      bounds = IfOk-from_err c.from_residual.result _ c.from_residual.ensures.0;
     }
 
 pub returns-in_err-read : goal.returns-in_err-read
@@ -31,7 +31,7 @@ returns-in_err-read g c =
     let a = c.in_ok-nla.nla in
     let f = c.in_err-read.field-0.0 in
     let step = found-one c.loop-nla.nla-iterator c.next.new.self c.in-Some.nla a c.in_ok-nla.was c.in-Some.ensures.steps in
-    let p = err_from_is_err_and c.from-residual-in_err-read.result c.from-residual-in_err-read.ensures.1 in
+    let p = err_from_is_err_and c.from_residual-in_err-read.result c.from_residual-in_err-read.ensures.1 in
     let reads = g.F.Form.reads c.args.form.now in
     let layer = layer_number c.args.walk.layer in
     let h = sym c.read.ensures.value ∙ ap answered c.in_err-read.was in
@@ -40,7 +40,7 @@ returns-in_err-read g c =
           ∙ sym (tally-bad c.loop-nla.tally layer reads a.place a.word a.value.now (ahead c.next.new.self) (numbers f) h)
           ∙ ap (tally_behind c.loop-nla.tally layer reads) (sym step.0)
           ∙ c.loop-nla.invariant.2;
-      bounds = IfOk-from_err c.from-residual-in_err-read.result _ c.from-residual-in_err-read.ensures.0;
+      bounds = IfOk-from_err c.from_residual-in_err-read.result _ c.from_residual-in_err-read.ensures.0;
     }
 
 pub join-tally-requires : goal.join-tally-requires

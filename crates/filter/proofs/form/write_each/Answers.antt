@@ -15,7 +15,7 @@ use Rattle.filter.proofs.form.write_each.Goals as goal
 
 pub loop-nla-init : goal.loop-nla-init
 loop-nla-init g c =
-    let e = c.into_iter-nla-iterator.ensures.into_iter-gives in
+    let e = c.into_iter-nla-iterator.ensures.into_iter_gives in
     let layer = layer_number c.args.walk.layer in
     let reads = g.F.Form.reads c.args.form.now in (
       tt,

@@ -33,8 +33,8 @@ returns g c =
     let fy = front_is m b old' c.write_out-2.new.output y.0 c.in-Ok-write_out.size y.1.0 y.1.1 c.write_out-2.ensures.after in
     let same : c.equal.result ≡ bytes_eq x.0 y.0 = c.equal.ensures ∙ (λ i. bytes_eq (fx i) (fy i)) in
     record {
-      value = ap (λ (t : Bool). alike t) same ∙ sym (compared-alike m law a b (octets a c.type-inv.first) (octets b c.type-inv.second) (length old) (length old') x.0 y.0 x.1.0 y.1.0);
-      decides = alike_decides m law a b (octets a c.type-inv.first) (octets b c.type-inv.second) (length old) (length old') x.0 y.0 x.1.0 y.1.0 c.equal.result same;
+      value = ap (λ (t : Bool). alike t) same ∙ sym (compared-alike m law a b (octets a c.type_inv.first) (octets b c.type_inv.second) (length old) (length old') x.0 y.0 x.1.0 y.1.0);
+      decides = alike_decides m law a b (octets a c.type_inv.first) (octets b c.type_inv.second) (length old) (length old') x.0 y.0 x.1.0 y.1.0 c.equal.result same;
       first = c.write_out.ensures.after;
       second = c.write_out-2.ensures.after ∙ sym (ap (λ (q : Read Bytes). behind_first q old' (output_after m old' b)) x.1.0);
     }

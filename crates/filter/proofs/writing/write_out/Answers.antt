@@ -43,5 +43,5 @@ returns g c =
       value = ap answered value ∙ ap {B = Read ℕ} (λ (i : ℕ). Ok i) (sym k.size) ∙ sym (ap (λ (q : Read Bytes). q >>= λ x. Ok (length x)) (room m bs k (length old) (omega arith)));
       after = after;
       trip = subst (λ (q : Result ℕ Fault). IfOk q (λ i. i ≤ 65531 → read_filter m (take i c.write_each.new.output) ≡ read_filter m bs)) (sym value)
-          (λ short. ap (λ (o : Bytes). read_filter m (take n o)) after ∙ reads_again m bs k old law (octets bs c.type-inv.filter) (omega arith) short);
+          (λ short. ap (λ (o : Bytes). read_filter m (take n o)) after ∙ reads_again m bs k old law (octets bs c.type_inv.filter) (omega arith) short);
     }

@@ -9,7 +9,7 @@ pub returns-in_err-check_lengths : goal.returns-in_err-check_lengths
 returns-in_err-check_lengths g c =
     let m = g.B.Book.meaning c.args.book.now in
     let tally = sym c.tally.ensures ∙ ap answered c.in_ok-tally.was in
-    let p = err_from_is_err_and c.from-residual-in_err-check_lengths.result c.from-residual-in_err-check_lengths.ensures.1 in
+    let p = err_from_is_err_and c.from_residual-in_err-check_lengths.result c.from_residual-in_err-check_lengths.ensures.1 in
     ap answered p.1 ∙ ap (λ (h : Fault). Err (numbers h)) p.2
     ∙ length-outgrown m c.args.filter.now c.in_ok-tally.tally (numbers c.in_err-check_lengths.field-0.0) tally (sym c.check_lengths.ensures ∙ ap answered c.in_err-check_lengths.was)
 

@@ -28,6 +28,6 @@ returns g c =
     ∙ ap (λ (w : Walked). run m (start mem) (row_turns filter_turns_at w)) c.new-walk.ensures.walks in
     record {
       value = ap (λ (r : Read Page). only_fault r) c.in_ok-page.ensures.value ∙ fits m old bs (length mem) size wrote c.if-memory-size.false;
-      page = built m old bs (length mem) size wrote (g.met.B.Book.lawful c.args.book.now) (octets bs c.type-inv.filter) mem c.if-memory-size.false made.0 new c.write_out.ensures.after s left;
+      page = built m old bs (length mem) size wrote (g.met.B.Book.lawful c.args.book.now) (octets bs c.type_inv.filter) mem c.if-memory-size.false made.0 new c.write_out.ensures.after s left;
       scratch = c.write_out.ensures.after;
     }

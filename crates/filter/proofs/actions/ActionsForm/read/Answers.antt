@@ -14,10 +14,10 @@ use Rattle.filter.proofs.actions.ActionsForm.read.Goals as goal
 pub returns-in_err-action : goal.returns-in_err-action
 returns-in_err-action g c =
     let m = g.B.Book.meaning c.args.self.now.book.now in
-    let p = err_from_is_err_and c.from-residual.result c.from-residual.ensures.1 in
+    let p = err_from_is_err_and c.from_residual.result c.from_residual.ensures.1 in
     record {
       value = ap answered p.1 ∙ ap (λ (h : Fault). Err (numbers h)) p.2 ∙ action-refused c.args.nla.now m c.requires c.parse.result c.in_err-action.field-0.0 c.parse.ensures.found c.in_err-action.was;
-      bounds = IfOk-from_err c.from-residual.result _ c.from-residual.ensures.0;
+      bounds = IfOk-from_err c.from_residual.result _ c.from_residual.ensures.0;
     }
 
 pub returns-in_err-row : goal.returns-in_err-row
@@ -26,12 +26,12 @@ returns-in_err-row g c =
     let b = c.args.nla.now in
     let a = c.in_ok-action.action in
     let row = walk (b.place + 4) b.value.now in
-    let p = err_from_is_err_and c.from-residual-in_err-row.result c.from-residual-in_err-row.ensures.1 in
+    let p = err_from_is_err_and c.from_residual-in_err-row.result c.from_residual-in_err-row.ensures.1 in
     let read = ap (λ (k : Bytes). tally_all 3 (attribute_summary m k) row) (sym c.as_bytes.ensures.value) ∙ sym c.read_inside.ensures.value ∙ ap answered c.in_err-row.was in
     record {
       value = ap answered p.1 ∙ ap (λ (h : Fault). Err (numbers h)) p.2
           ∙ nest-bad 3 (attribute_summary m a.kind.now) (type_of b.word) none options_of _ row (numbers c.in_err-row.field-0.0) (action-as_read b m c.requires c.parse.result a c.parse.ensures.found c.in_ok-action.was) read;
-      bounds = IfOk-from_err c.from-residual-in_err-row.result _ c.from-residual-in_err-row.ensures.0;
+      bounds = IfOk-from_err c.from_residual-in_err-row.result _ c.from_residual-in_err-row.ensures.0;
     }
 
 pub nest-requires : goal.nest-requires

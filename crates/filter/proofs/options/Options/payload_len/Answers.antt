@@ -14,7 +14,7 @@ use Rattle.filter.proofs.options.Options.payload_len.Goals as goal
 pub returns-in_err-leaf : goal.returns-in_err-leaf
 returns-in_err-leaf g c =
     let m = g.B.Book.meaning c.args.self.now.book.now in
-    let p = err_from_is_err_and c.from-residual.result c.from-residual.ensures.1 in
+    let p = err_from_is_err_and c.from_residual.result c.from_residual.ensures.1 in
     ap answered p.1 ∙ ap (λ (h : Fault). Err (numbers h)) p.2 ∙ ap payload_length (c.in_err-leaf.ensures.reads m)
 
 pub returns-in_err-row : goal.returns-in_err-row
@@ -22,7 +22,7 @@ returns-in_err-row g c =
     let m = g.B.Book.meaning c.args.self.now.book.now in
     let nest = c.in-Nest.nest in
     let reads = ap (λ (i : Content). read_in_option m (content_meant i)) (sym c.in-Nest.is) ∙ c.in_ok-leaf.ensures.reads m in
-    let p = err_from_is_err_and c.from-residual-in_err-row.result c.from-residual-in_err-row.ensures.1 in
+    let p = err_from_is_err_and c.from_residual-in_err-row.result c.from_residual-in_err-row.ensures.1 in
     let row = sym c.read_inside.ensures.value ∙ ap answered c.in_err-row.was in
     ap answered p.1 ∙ ap (λ (h : Fault). Err (numbers h)) p.2
     ∙ nest_payload_bad 2 (action_summary m) 7 items_of options_of _ (walk (nest.place + 4) nest.value.now) (numbers c.in_err-row.field-0.0) reads row

@@ -30,12 +30,12 @@ returns-in_err-row g c =
     let nest = c.in-Nest.nest in
     let reads = ap (λ (i : Content). read_in_option m (content_meant i)) (sym c.in-Nest.is) ∙ c.in_ok-leaf.ensures.reads m in
     let f = c.in_err-row.field-0.0 in
-    let p = err_from_is_err_and c.from-residual-in_err-row.result c.from-residual-in_err-row.ensures.1 in
+    let p = err_from_is_err_and c.from_residual-in_err-row.result c.from_residual-in_err-row.ensures.1 in
     let row = sym c.read_inside.ensures.value ∙ ap answered c.in_err-row.was in
     record {
       value = ap answered p.1 ∙ ap (λ (h : Fault). Err (numbers h)) p.2
           ∙ nest-bad 2 (action_summary m) 7 items_of options_of _ (walk (nest.place + 4) nest.value.now) (numbers f) reads row;
-      bounds = IfOk-from_err c.from-residual-in_err-row.result _ c.from-residual-in_err-row.ensures.0;
+      bounds = IfOk-from_err c.from_residual-in_err-row.result _ c.from_residual-in_err-row.ensures.0;
     }
 
 pub nest-requires : goal.nest-requires

@@ -15,6 +15,6 @@ returns c =
       value = ap {B = Read Page} (λ (s : State). Ok s.page) c.blank.ensures ∙ sym (cond-false _ _ _ (le-ltb 65531 (length mem) small));
       reaches =
           subst (λ (s : State). ReachesEveryFilter s) (sym c.blank.ensures) (λ m laws bs o r reads fits.
-          let k = every_filter_is_a_page m laws bs o r reads (omega arith) mem (octets mem c.type-inv.memory) (sym fits) in
+          let k = every_filter_is_a_page m laws bs o r reads (omega arith) mem (octets mem c.type_inv.memory) (sym fits) in
           (k.0, (k.1.0, record { bytes = k.1.1; nests = k.1.2 })));
     }

@@ -25,7 +25,7 @@ returns-in_err-reads_as_option g c =
     let a = c.in-Root-Put in
     let f = c.in_err-reads_as_option.field-0.0 in
     let belongs : eqb (a.word % 16384) 7 ≡ false = ne_eqb (a.word % 16384) 7 c.if-word-ne-TCA_U32_ACT.true in
-    stopped c.args.self.now c.args.memory.now c.from-residual-in_err-reads_as_option.result f c.from-residual-in_err-reads_as_option.ensures.1
+    stopped c.args.self.now c.args.memory.now c.from_residual-in_err-reads_as_option.result f c.from_residual-in_err-reads_as_option.ensures.1
     ∙ put_unread m c.args.self.now c.args.memory.now _ c.in_ok-lent.ensures c.args.call Root a.is-0 a.word a.value a.is-1 (ap not belongs)
     (numbers f) (c.in_err-reads_as_option.ensures m)
 
@@ -35,7 +35,7 @@ returns-in_err-reads_as_attribute g c =
     let a = c.in-Action-Put in
     let f = c.in_err-reads_as_attribute.field-0.0 in
     let belongs : eqb (a.word % 16384) 2 ≡ false = ne_eqb (a.word % 16384) 2 c.if-word-ne-TCA_ACT_OPTIONS.true in
-    stopped c.args.self.now c.args.memory.now c.from-residual-in_err-reads_as_attribute.result f c.from-residual-in_err-reads_as_attribute.ensures.1
+    stopped c.args.self.now c.args.memory.now c.from_residual-in_err-reads_as_attribute.result f c.from_residual-in_err-reads_as_attribute.ensures.1
     ∙ put_unread m c.args.self.now c.args.memory.now _ c.in_ok-lent.ensures c.args.call (Action a.field-0-0 a.field-1-0) a.is-0 a.word a.value a.is-1 (ap not belongs)
     (numbers f) (c.in_err-reads_as_attribute.ensures m)
 

@@ -1,7 +1,0 @@
-use Rattle.std.proofs.Common.{◌≡◌, ◌++◌, drop, string_bytes}
-use Rattle.hex.specs.Hex.{encode}
-use Rattle.hex.proofs.encoding.encode.Given as goal
-
-abbrev pub invariant-loop-byte : goal.invariant-loop-byte
-invariant-loop-byte l =
-    string_bytes l.text ++ encode (drop l.byte-index l.bytes) ≡ string_bytes l.initial.text ++ encode l.bytes
