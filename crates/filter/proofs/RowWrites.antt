@@ -1,6 +1,6 @@
 -- Writing a row of attributes, attribute by attribute, and what stands around it. Assumes nothing.
 use Rattle.std.proofs.Common.{◌≡◌, ℕ, ◌+◌, ◌-◌, ◌≤◌, List, [], ◌∷◌, ◌++◌, map, length, take, drop, replicate, Ok, Err, sym, refl, ap, ◌∙◌, subst, add-zero, add_assoc, arith}
-use Rattle.std.specs.List.{AllByRecursion as All}
+use Rattle.std.specs.List.{AllByRecursion}
 use Rattle.std.proofs.lemmas.List.{append_assoc, append-nil, length-append, length-take-le, take-append-drop, take-append-le, take-take, take_at, drop_at, drop-drop}
 use Rattle.model.specs.Numbers.{Bytes}
 use Rattle.model.specs.Attributes.{rounded, attribute, encode, head}
@@ -48,7 +48,7 @@ ended k out at e =
     (ap (λ (r : Read (List Summary)). over out at (row_form r)) e ∙ over_nothing out at, ap (λ (r : Read (List Summary)). at + length (row_form r)) e ∙ add-zero at)
 
 -- where a row fits into a length field, each of it does
-pub row_short : (l : List Summary) → length (written_row l) ≤ 65531 → All Short l
+pub row_short : (l : List Summary) → length (written_row l) ≤ 65531 → AllByRecursion Short l
 row_short [] h = tt
 row_short (s ∷ l) h =
     let size : length (encode s.written ++ written_row l) ≡ length (encode s.written) + length (written_row l) = length-append (encode s.written) (written_row l) in

@@ -1,6 +1,6 @@
 -- Writing out a filter that reads: its lengths, its room, and its bytes. Assumes nothing.
 use Rattle.std.proofs.Common.{◌≡◌, ℕ, ◌+◌, ◌-◌, ◌<◌, ◌≤◌, Bool, true, false, cond, ltb, List, [], ◌∷◌, ◌++◌, map, length, take, drop, Ok, Err, sym, refl, ap, ◌∙◌, subst, zero-add, arith}
-use Rattle.std.specs.List.{AllByRecursion as All}
+use Rattle.std.specs.List.{AllByRecursion}
 use Rattle.std.proofs.lemmas.List.{take_at}
 use Rattle.std.proofs.lemmas.Bool.{cond-true, cond-false, lt-ltb, le-ltb, ltb-false}
 use Rattle.model.specs.Numbers.{Bytes, Octets}
@@ -49,14 +49,14 @@ module _ (m : Meaning) where
       ∙ ap (fitting (item p v x k)) (ok_same more.1.1)
 
   -- where they all fit, each is short
-  pub all_short : (w : Walked) (r : Reading) → each 1 (read_option m) w ≡ Ok r → fitting w r ≡ Ok tt → All Short (map of_option r)
-  all_short done r e h = subst (λ (l : Reading). All Short (map of_option l)) (ok_same e) tt
+  pub all_short : (w : Walked) (r : Reading) → each 1 (read_option m) w ≡ Ok r → fitting w r ≡ Ok tt → AllByRecursion Short (map of_option r)
+  all_short done r e h = subst (λ (l : Reading). AllByRecursion Short (map of_option l)) (ok_same e) tt
   all_short (bad c p) r e h = err-not-ok _ r e
   all_short (item p v x k) r e h =
       let one = chain (read_option m p v x) (λ a. each 1 (read_option m) k >>= λ l. Ok (a ∷ l)) e in
       let more = chain (each 1 (read_option m) k) (λ l. Ok (one.0 ∷ l)) one.1.1 in
       let fits = passed (ltb 65531 (length (write_option one.0).payload)) (fault 15 p 1) (fitting k more.0) (ap (fitting (item p v x k)) (ok_same more.1.1) ∙ h) in
-      subst (λ (l : Reading). All Short (map of_option l)) (ok_same more.1.1) (ltb-false 65531 (length (write_option one.0).payload) fits.0, all_short k more.0 more.1.0 fits.1)
+      subst (λ (l : Reading). AllByRecursion Short (map of_option l)) (ok_same more.1.1) (ltb-false 65531 (length (write_option one.0).payload) fits.0, all_short k more.0 more.1.0 fits.1)
 
   module _ (bs : Bytes) where
     -- a filter that reads is not too long, and its options read

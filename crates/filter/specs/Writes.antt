@@ -1,6 +1,6 @@
 -- Room for what is written of attributes that read, and the bytes that they are written as. Assumes nothing.
 use Rattle.std.specs.Prelude.{ℕ, ◌+◌, ◌≤◌, List, [], ◌++◌, length, Ok, Err}
-use Rattle.std.specs.List.{AllByRecursion as All}
+use Rattle.std.specs.List.{AllByRecursion}
 use Rattle.model.specs.Numbers.{Bytes}
 use Rattle.model.specs.Attributes.{encode, head}
 use Rattle.model.specs.Book.{Answer, accept, refuse}
@@ -28,7 +28,7 @@ payload_of (refuse n need) = []
 
 -- a row of them
 abbrev pub RoomForRow : Read (List Summary) → (at size : ℕ) → Type 0
-RoomForRow (Ok l) at n = All Short l × (at + length (written_row l) ≤ n)
+RoomForRow (Ok l) at n = AllByRecursion Short l × (at + length (written_row l) ≤ n)
 RoomForRow (Err e) at n = ⊥
 
 abbrev pub row_form : Read (List Summary) → Bytes

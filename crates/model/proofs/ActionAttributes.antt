@@ -2,7 +2,7 @@
 use Rattle.std.proofs.Common.{◌≡◌, ℕ, zero, suc, ◌+◌, ◌<◌, ◌≤◌, Bool, true, false, cond, eqb, List, [], ◌∷◌, ◌++◌, map, length, get_or, Ok, sym, refl, ap, ◌∙◌, subst, arith, ne_eqb, eqb-true}
 use Rattle.std.proofs.lemmas.List.{map-id}
 use Rattle.std.proofs.ByRecursion.{All-weaker}
-use Rattle.std.specs.List.{AllByRecursion as All}
+use Rattle.std.specs.List.{AllByRecursion}
 use Rattle.model.specs.Numbers.{Bytes, Octets, number, bytes_of}
 use Rattle.model.specs.Faults.{Read, fault, needing}
 use Rattle.model.specs.Attributes.{type_of, Attribute, Writable, encode_all}
@@ -38,7 +38,7 @@ pub record Settled (m : Meaning) (k : Bytes) (a : Attribute) : Type 0 where
 -- what else is known of an attribute: its bytes, and that a default is no nest of options
 abbrev pub Known : ActionAttribute → Type 0
 Known (kind t) = Octets (t ++ 0 ∷ [])
-Known (options l) = All (λ o. Writable o × Octets o.payload) l
+Known (options l) = AllByRecursion (λ o. Writable o × Octets o.payload) l
 Known (index n) = Unit {0}
 Known (stats x) = Octets x
 Known (cookie x) = Octets x
@@ -82,7 +82,7 @@ module _ (m : Meaning) (laws : BookLaws m) (k : Bytes) where
   as_read_again : (a : Attribute) → Settled m k a → (p : ℕ) → as_read p (m k a.word a.payload) ≡ Ok a
   as_read_again a s p = ap (as_read p) s.accepted
 
-  options_again : (l : List Attribute) → All (Settled m k) l → (p : ℕ) → each 4 (λ q v y. as_read q (m k v y)) (walk p (encode_all l)) ≡ Ok l
+  options_again : (l : List Attribute) → AllByRecursion (Settled m k) l → (p : ℕ) → each 4 (λ q v y. as_read q (m k v y)) (walk p (encode_all l)) ≡ Ok l
   options_again l s p =
       let same : map (λ (a : Attribute). a) l ≡ l = map-id l in
       ap (λ (l' : List Attribute). each 4 (λ q v y. as_read q (m k v y)) (walk p (encode_all l'))) (sym same)
@@ -97,7 +97,7 @@ module _ (m : Meaning) (laws : BookLaws m) (k : Bytes) where
     heard = λ p r l q. rw (stripped_zero s, h, q);
   }
 
-  options_steady : (l : List Attribute) → All (Settled m k) l → Steady m k (options l)
+  options_steady : (l : List Attribute) → AllByRecursion (Settled m k) l → Steady m k (options l)
   options_steady l s = record {
     known = All-weaker (Settled m k) (λ o. Writable o × Octets o.payload) (λ o t. (t.writable, t.octets)) l s;
     word16 = omega arith;

@@ -2,7 +2,7 @@
 use Rattle.std.proofs.Common.{◌≡◌, ℕ, zero, suc, ◌+◌, ◌<◌, ◌≤◌, Bool, true, false, eqb, List, [], ◌∷◌, ◌++◌, map, length, get_or, Ok, sym, refl, ap, ◌∙◌, subst, arith, length-append, eqb-true}
 use borrow.Author.Tests.{eqb-false}
 use Rattle.std.proofs.ByRecursion.{All-weaker}
-use Rattle.std.specs.List.{AllByRecursion as All}
+use Rattle.std.specs.List.{AllByRecursion}
 use Rattle.model.specs.Numbers.{Bytes, Octets}
 use Rattle.model.specs.Faults.{Read, ◌>>=◌}
 use Rattle.model.specs.Attributes.{type_of, rounded, Attribute, Writable, encode, encode_all}
@@ -62,7 +62,7 @@ module _ (m : Meaning) (laws : BookLaws m) where
 
   pub record SteadyAction (a : Action) : Type 0 where
     pub tab14 : a.tab < 16384
-    pub all_steady : All (Steady m a.kind_text) a.attributes
+    pub all_steady : AllByRecursion (Steady m a.kind_text) a.attributes
     pub one-kind : own_kinds a.attributes ≡ a.kind_text ∷ []
 
   the_kind_is : (p : ℕ) (l : List Bytes) (k : Bytes) → the_kind p l ≡ Ok k → l ≡ k ∷ []
@@ -83,20 +83,20 @@ module _ (m : Meaning) (laws : BookLaws m) where
       } in
       subst SteadyAction (ok_same d.1.1) made
 
-  kinds-found : (k : Bytes) (l : List ActionAttribute) → All (Steady m k) l → (p : ℕ) → kinds (found p (map write_attribute l)) ≡ Ok (own_kinds l)
+  kinds-found : (k : Bytes) (l : List ActionAttribute) → AllByRecursion (Steady m k) l → (p : ℕ) → kinds (found p (map write_attribute l)) ≡ Ok (own_kinds l)
   kinds-found k [] s p = refl
   kinds-found k (a ∷ l) s p =
       s.0.heard p (found (p + rounded (4 + length (write_attribute a).payload)) (map write_attribute l)) (own_kinds l) (kinds-found k l s.1 (p + rounded (4 + length (write_attribute a).payload)))
 
 -- each payload is shorter than the whole
-pub all_short : {A : Type 0} (w : A → Attribute) (n : ℕ) (l : List A) → length (encode_all (map w l)) ≤ n → All (λ a. length (w a).payload ≤ n) l
+pub all_short : {A : Type 0} (w : A → Attribute) (n : ℕ) (l : List A) → length (encode_all (map w l)) ≤ n → AllByRecursion (λ a. length (w a).payload ≤ n) l
 all_short w n [] h = tt
 all_short w n (a ∷ l) h =
     let size : length (encode (w a) ++ encode_all (map w l)) ≡ length (encode (w a)) + length (encode_all (map w l)) = length-append (encode (w a)) (encode_all (map w l)) in
     let one : length (encode (w a)) ≡ rounded (4 + length (w a).payload) = length-encode (w a) in
     (omega arith, all_short w n l (omega arith))
 
-pub all_both : {A : Type 0} (P Q : A → Type 0) (l : List A) → All P l → All Q l → All (λ a. P a × Q a) l
+pub all_both : {A : Type 0} (P Q : A → Type 0) (l : List A) → AllByRecursion P l → AllByRecursion Q l → AllByRecursion (λ a. P a × Q a) l
 all_both P Q [] f g = tt
 all_both P Q (a ∷ l) f g = ((f.0, g.0), all_both P Q l f.1 g.1)
 

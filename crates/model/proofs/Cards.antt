@@ -1,7 +1,7 @@
 -- What a card's lists read as, from their bytes and one by one. Assumes nothing.
 use Rattle.std.proofs.Common.{◌≡◌, ℕ, zero, suc, ◌+◌, ◌/◌, ◌%◌, Bool, true, false, eqb, List, [], ◌∷◌, map, length, get_or, Ok, sym, refl, ap, ◌∙◌, subst, ap₂}
 use Rattle.std.proofs.lemmas.List.{map-id}
-use Rattle.std.specs.List.{AllByRecursion as All}
+use Rattle.std.specs.List.{AllByRecursion}
 use Rattle.model.specs.Numbers.{Bytes}
 use Rattle.model.specs.Faults.{Read, ◌>>=◌}
 use Rattle.model.specs.Attributes.{rounded, type_of, Attribute, attribute, Writable, encode_all}
@@ -17,7 +17,7 @@ use Rattle.model.proofs.Placeless.{Also, also_then, also_same, text_also, the_ki
 
 -- ── one by one, and from the bytes ──
 pub also_found : {A B : Type 0} (layer : ℕ) (f : ℕ → ℕ → Bytes → Read A) (w : B → Attribute) (g : B → Read A) (l : List B) →
-    All (λ b. (p : ℕ) → Also (f p (w b).word (w b).payload) (g b)) l → (p : ℕ) → Also (each layer f (found p (map w l))) (all g l)
+    AllByRecursion (λ b. (p : ℕ) → Also (f p (w b).word (w b).payload) (g b)) l → (p : ℕ) → Also (each layer f (found p (map w l))) (all g l)
 also_found layer f w g [] h p = also_same (Ok [])
 also_found layer f w g (b ∷ l) h p =
     also_then (f p (w b).word (w b).payload) (g b) _ _ (h.0 p)
@@ -25,7 +25,7 @@ also_found layer f w g (b ∷ l) h p =
 
 -- and back
 pub also_all : {A B : Type 0} (layer : ℕ) (f : ℕ → ℕ → Bytes → Read A) (w : B → Attribute) (g : B → Read A) (l : List B) →
-    All (λ b. (p : ℕ) → Also (g b) (f p (w b).word (w b).payload)) l → (p : ℕ) → Also (all g l) (each layer f (found p (map w l)))
+    AllByRecursion (λ b. (p : ℕ) → Also (g b) (f p (w b).word (w b).payload)) l → (p : ℕ) → Also (all g l) (each layer f (found p (map w l)))
 also_all layer f w g [] h p = also_same (Ok [])
 also_all layer f w g (b ∷ l) h p =
     also_then (g b) (f p (w b).word (w b).payload) _ _ (h.0 p)
@@ -71,7 +71,7 @@ module _ {A B : Type 0} (layer : ℕ) (f : ℕ → ℕ → Bytes → Read A) (w 
 -- ── items of an action ──
 abbrev pub GoodActionItem : ActionItem → Type 0
 GoodActionItem (ActionItem.leaf a) = Writable a × ¬ (type_of a.word ≡ 2)
-GoodActionItem (ActionItem.nest w os) = Writable (attribute w (encode_all os)) × (0x8002 ≡ w) × All Writable os
+GoodActionItem (ActionItem.nest w os) = Writable (attribute w (encode_all os)) × (0x8002 ≡ w) × AllByRecursion Writable os
 
 pub action_item_writable : (i : ActionItem) → GoodActionItem i → Writable (action_item_attribute i)
 action_item_writable (ActionItem.leaf a) h = h.0
@@ -82,7 +82,7 @@ kind-test : (t : Bool) (p : ℕ) (x : Bytes) (r : Walked) (l : List ActionItem) 
 kind-test true p x r l h = also_then (text p 3 x) (text 0 3 x) _ _ (text_also p 0 3 x) (λ t. also_then (kinds r) (action_item_kinds l) _ _ h (λ ts. also_same (Ok (t ∷ ts))))
 kind-test false p x r l h = h
 
-pub action_item_kinds-found : (l : List ActionItem) → All GoodActionItem l → (p : ℕ) → Also (kinds (found p (map action_item_attribute l))) (action_item_kinds l)
+pub action_item_kinds-found : (l : List ActionItem) → AllByRecursion GoodActionItem l → (p : ℕ) → Also (kinds (found p (map action_item_attribute l))) (action_item_kinds l)
 action_item_kinds-found [] h p a q = q
 action_item_kinds-found (ActionItem.leaf b ∷ l) h p a q =
     kind-test (eqb (type_of b.word) 1) p b.payload (found (p + rounded (4 + length b.payload)) (map action_item_attribute l)) l (action_item_kinds-found l h.1 (p + rounded (4 + length b.payload))) a q
@@ -92,14 +92,14 @@ action_item_kinds-found (ActionItem.nest w os ∷ l) h p a q =
     action_item_kinds-found l h.1 (p + rounded (4 + length (encode_all os))) a q'
 
 module _ (m : Meaning) where
-  pub options-read : (k : Bytes) (os : List Attribute) → All Writable os → (p : ℕ) → Also (each 4 (λ q v y. as_read q (m k v y)) (walk p (encode_all os))) (all (λ o. as_read 0 (m k o.word o.payload)) os)
+  pub options-read : (k : Bytes) (os : List Attribute) → AllByRecursion Writable os → (p : ℕ) → Also (each 4 (λ q v y. as_read q (m k v y)) (walk p (encode_all os))) (all (λ o. as_read 0 (m k o.word o.payload)) os)
   options-read k os ok p a q =
       let f : ℕ → ℕ → Bytes → Read Attribute = λ q v y. as_read q (m k v y) in
       let q' : each 4 f (found p (map (λ (o : Attribute). o) os)) ≡ Ok a =
       ap (λ (l : List Attribute). each 4 f (found p l)) (map-id os) ∙ ap (each 4 f) (sym (walk_of_encode p os ok)) ∙ q in
       also_found 4 f (λ o. o) (λ o. as_read 0 (m k o.word o.payload)) os (every os) p a q'
     where
-      every : (l : List Attribute) → All (λ o. (p : ℕ) → Also (as_read p (m k o.word o.payload)) (as_read 0 (m k o.word o.payload))) l
+      every : (l : List Attribute) → AllByRecursion (λ o. (p : ℕ) → Also (as_read p (m k o.word o.payload)) (as_read 0 (m k o.word o.payload))) l
       every [] = tt
       every (o ∷ l) = ((λ p. as_read_also p 0 (m k o.word o.payload)), every l)
 
@@ -109,10 +109,10 @@ module _ (m : Meaning) where
       subst (λ (v : ℕ). Also (read_attribute m k p v (encode_all os)) (read_action_item m k (ActionItem.nest w os))) h.1
       (also_then _ _ _ _ (options-read k os h.2 (p + 4)) (λ l. also_same (Ok (options l))))
 
-  items-read : (k : Bytes) (l : List ActionItem) → All GoodActionItem l → (p : ℕ) → Also (each 3 (read_attribute m k) (found p (map action_item_attribute l))) (all (read_action_item m k) l)
+  items-read : (k : Bytes) (l : List ActionItem) → AllByRecursion GoodActionItem l → (p : ℕ) → Also (each 3 (read_attribute m k) (found p (map action_item_attribute l))) (all (read_action_item m k) l)
   items-read k l h p = also_found 3 (read_attribute m k) action_item_attribute (read_action_item m k) l (every l h) p
     where
-      every : (l : List ActionItem) → All GoodActionItem l → All (λ i. (p : ℕ) → Also (read_attribute m k p (action_item_attribute i).word (action_item_attribute i).payload) (read_action_item m k i)) l
+      every : (l : List ActionItem) → AllByRecursion GoodActionItem l → AllByRecursion (λ i. (p : ℕ) → Also (read_attribute m k p (action_item_attribute i).word (action_item_attribute i).payload) (read_action_item m k i)) l
       every [] h = tt
       every (i ∷ l) h = (action-item-read k i h.0, every l h.1)
 
@@ -160,7 +160,7 @@ module _ (m : Meaning) where
       let f = chain (all (λ o. as_read 0 (m k o.word o.payload)) os) (λ l. Ok (options l)) q in
       ap options_in (sym (ok_same f.1.1)) ∙ all-length (λ o. as_read 0 (m k o.word o.payload)) os f.0 f.1.0
 
-  items-count : (k : Bytes) (l : List ActionItem) (r : List ActionAttribute) → All GoodActionItem l → all (read_action_item m k) l ≡ Ok r → sum_of options_in r ≡ sum_of options_of l
+  items-count : (k : Bytes) (l : List ActionItem) (r : List ActionAttribute) → AllByRecursion GoodActionItem l → all (read_action_item m k) l ≡ Ok r → sum_of options_in r ≡ sum_of options_of l
   items-count k [] r h q = ap (sum_of options_in) (sym (ok_same q))
   items-count k (i ∷ l) r h q =
       let f = chain (read_action_item m k i) (λ b. all (read_action_item m k) l >>= λ bs. Ok (b ∷ bs)) q in
@@ -172,7 +172,7 @@ module _ (m : Meaning) where
     pub writable : Writable (card_action_attribute d)
     pub made : Action
     pub reads : Reads (read_action m) card_action_attribute (read_card_action m) d made
-    pub good_items : All GoodActionItem d.items
+    pub good_items : AllByRecursion GoodActionItem d.items
     pub count : sum_of options_in made.attributes ≡ sum_of options_of d.items
 
   pub assembled : (h u : ℕ) (x : Bytes) (ts : List Bytes) (k : Bytes) (as' : List ActionAttribute) → kinds (walk (h + 4) x) ≡ Ok ts → the_kind h ts ≡ Ok k → each 3 (read_attribute m k) (walk (h + 4) x) ≡ Ok as' →
@@ -183,7 +183,7 @@ module _ (m : Meaning) where
       read_card_action m (card_action u l) ≡ Ok (record { tab = type_of u; kind_text = k; attributes = as' })
   card_action_assembled u l ts k as' e f g = rw (e, f, g)
 
-  pub card_action_good : (u h : ℕ) (l : List ActionItem) (a : Action) → All GoodActionItem l → Writable (attribute u (action_items_bytes l)) → read_action m h 0 (action_items_bytes l) ≡ Ok a → GoodCardAction (card_action u l)
+  pub card_action_good : (u h : ℕ) (l : List ActionItem) (a : Action) → AllByRecursion GoodActionItem l → Writable (attribute u (action_items_bytes l)) → read_action m h 0 (action_items_bytes l) ≡ Ok a → GoodCardAction (card_action u l)
   card_action_good u h l a good ok q =
       let walked : walk (h + 4) (action_items_bytes l) ≡ found (h + 4) (map action_item_attribute l) = walk_of_encode (h + 4) (map action_item_attribute l) (all_mapped GoodActionItem Writable action_item_attribute action_item_writable l good) in
       let s = walk (h + 4) (action_items_bytes l) in
@@ -206,7 +206,7 @@ module _ (m : Meaning) where
   -- ── an entry of the page ──
   abbrev pub Shape : PageItem → Type 0
   Shape (PageItem.leaf a) = Unit {0}
-  Shape (PageItem.nest w ds) = (7 ≡ w) × All GoodCardAction ds
+  Shape (PageItem.nest w ds) = (7 ≡ w) × AllByRecursion GoodCardAction ds
 
   pub record GoodPageItem (e : PageItem) : Type 0 where
     pub writable : Writable (page_action_item_attribute e)
@@ -231,13 +231,13 @@ module _ (m : Meaning) where
   Deeds : CardAction → Action → Type 0
   Deeds d a = Reads (read_action m) card_action_attribute (read_card_action m) d a × (sum_of options_in a.attributes ≡ sum_of options_of d.items)
 
-  actions_from : (l : List CardAction) → All GoodCardAction l → (as' : List Action) × (Both (Reads (read_action m) card_action_attribute (read_card_action m)) l as' × (sum_of (λ a. sum_of options_in a.attributes) as' ≡ sum_of (λ d. sum_of options_of d.items) l))
+  actions_from : (l : List CardAction) → AllByRecursion GoodCardAction l → (as' : List Action) × (Both (Reads (read_action m) card_action_attribute (read_card_action m)) l as' × (sum_of (λ a. sum_of options_in a.attributes) as' ≡ sum_of (λ d. sum_of options_of d.items) l))
   actions_from [] h = ([], (tt, refl))
   actions_from (d ∷ l) h =
       let r = actions_from l h.1 in
       (h.0.made ∷ r.0, ((h.0.reads, r.1.0), ap₂ ◌+◌ h.0.count r.1.1))
 
-  pub nest_good : (l : List CardAction) → All GoodCardAction l → Writable (attribute 7 (card_actions_bytes l)) → GoodPageItem (PageItem.nest 7 l)
+  pub nest_good : (l : List CardAction) → AllByRecursion GoodCardAction l → Writable (attribute 7 (card_actions_bytes l)) → GoodPageItem (PageItem.nest 7 l)
   nest_good l h ok =
       let r = actions_from l h in
       let fine = all_mapped GoodCardAction Writable card_action_attribute (λ d g. g.writable) l h in
@@ -259,7 +259,7 @@ back_test : (t : Bool) (p : ℕ) (x : Bytes) (r : Walked) (l : List ActionItem) 
 back_test true p x r l h = also_then (text 0 3 x) (text p 3 x) _ _ (text_also 0 p 3 x) (λ t. also_then (action_item_kinds l) (kinds r) _ _ h (λ ts. also_same (Ok (t ∷ ts))))
 back_test false p x r l h = h
 
-kinds_back : (l : List ActionItem) → All GoodActionItem l → (p : ℕ) → Also (action_item_kinds l) (kinds (found p (map action_item_attribute l)))
+kinds_back : (l : List ActionItem) → AllByRecursion GoodActionItem l → (p : ℕ) → Also (action_item_kinds l) (kinds (found p (map action_item_attribute l)))
 kinds_back [] h p a q = q
 kinds_back (ActionItem.leaf b ∷ l) h p a q =
     back_test (eqb (type_of b.word) 1) p b.payload (found (p + rounded (4 + length b.payload)) (map action_item_attribute l)) l (kinds_back l h.1 (p + rounded (4 + length b.payload))) a q
@@ -268,13 +268,13 @@ kinds_back (ActionItem.nest w os ∷ l) h p a q =
     subst (λ (v : ℕ). kinds (item p v (encode_all os) r) ≡ Ok a) h.0.1 (kinds_back l h.1 (p + rounded (4 + length (encode_all os))) a q)
 
 module _ (m : Meaning) where
-  options_back : (k : Bytes) (os : List Attribute) → All Writable os → (p : ℕ) → Also (all (λ o. as_read 0 (m k o.word o.payload)) os) (each 4 (λ q v y. as_read q (m k v y)) (walk p (encode_all os)))
+  options_back : (k : Bytes) (os : List Attribute) → AllByRecursion Writable os → (p : ℕ) → Also (all (λ o. as_read 0 (m k o.word o.payload)) os) (each 4 (λ q v y. as_read q (m k v y)) (walk p (encode_all os)))
   options_back k os ok p a q =
       let f : ℕ → ℕ → Bytes → Read Attribute = λ q v y. as_read q (m k v y) in
       ap (each 4 f) (walk_of_encode p os ok) ∙ ap (λ (l : List Attribute). each 4 f (found p l)) (sym (map-id os))
       ∙ also_all 4 f (λ o. o) (λ o. as_read 0 (m k o.word o.payload)) os (every os) p a q
     where
-      every : (l : List Attribute) → All (λ o. (p : ℕ) → Also (as_read 0 (m k o.word o.payload)) (as_read p (m k o.word o.payload))) l
+      every : (l : List Attribute) → AllByRecursion (λ o. (p : ℕ) → Also (as_read 0 (m k o.word o.payload)) (as_read p (m k o.word o.payload))) l
       every [] = tt
       every (o ∷ l) = ((λ p. as_read_also 0 p (m k o.word o.payload)), every l)
 
@@ -284,15 +284,15 @@ module _ (m : Meaning) where
       subst (λ (v : ℕ). Also (read_action_item m k (ActionItem.nest w os)) (read_attribute m k p v (encode_all os))) h.1
       (also_then _ _ _ _ (options_back k os h.2 (p + 4)) (λ l. also_same (Ok (options l))))
 
-  items_back : (k : Bytes) (l : List ActionItem) → All GoodActionItem l → (p : ℕ) → Also (all (read_action_item m k) l) (each 3 (read_attribute m k) (found p (map action_item_attribute l)))
+  items_back : (k : Bytes) (l : List ActionItem) → AllByRecursion GoodActionItem l → (p : ℕ) → Also (all (read_action_item m k) l) (each 3 (read_attribute m k) (found p (map action_item_attribute l)))
   items_back k l h p = also_all 3 (read_attribute m k) action_item_attribute (read_action_item m k) l (every l h) p
     where
-      every : (l : List ActionItem) → All GoodActionItem l → All (λ i. (p : ℕ) → Also (read_action_item m k i) (read_attribute m k p (action_item_attribute i).word (action_item_attribute i).payload)) l
+      every : (l : List ActionItem) → AllByRecursion GoodActionItem l → AllByRecursion (λ i. (p : ℕ) → Also (read_action_item m k i) (read_attribute m k p (action_item_attribute i).word (action_item_attribute i).payload)) l
       every [] h = tt
       every (i ∷ l) h = (item_back k i h.0, every l h.1)
 
   -- an action whose items read one by one is good
-  pub card_action_good_from : (u : ℕ) (l : List ActionItem) (ts : List Bytes) (k : Bytes) (as' : List ActionAttribute) → All GoodActionItem l → Writable (attribute u (action_items_bytes l)) →
+  pub card_action_good_from : (u : ℕ) (l : List ActionItem) (ts : List Bytes) (k : Bytes) (as' : List ActionAttribute) → AllByRecursion GoodActionItem l → Writable (attribute u (action_items_bytes l)) →
       action_item_kinds l ≡ Ok ts → the_kind 0 ts ≡ Ok k → all (read_action_item m k) l ≡ Ok as' → GoodCardAction m (card_action u l)
   card_action_good_from u l ts k as' good ok e f g =
       let walked : walk 4 (action_items_bytes l) ≡ found 4 (map action_item_attribute l) = walk_of_encode 4 (map action_item_attribute l) (all_mapped GoodActionItem Writable action_item_attribute action_item_writable l good) in

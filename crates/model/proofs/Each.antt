@@ -1,6 +1,6 @@
 -- What a walk over bytes finds is bytes, and what holds of each attribute that is read. Assumes nothing.
 use Rattle.std.proofs.Common.{◌≡◌, ℕ, zero, suc, ◌+◌, ◌-◌, ◌/◌, ◌<◌, ◌≤◌, Bool, true, false, cond, ltb, List, [], ◌∷◌, ◌++◌, map, length, take, drop, Ok, Err, refl, ap, ◌∙◌, subst, arith, length-take}
-use Rattle.std.specs.List.{AllByRecursion as All}
+use Rattle.std.specs.List.{AllByRecursion}
 use Rattle.std.proofs.ByRecursion.{All-take, All-drop, All-append, All-map, All-weaker}
 use Rattle.model.specs.Numbers.{Bytes, Octets, number, bytes_of}
 use Rattle.model.specs.Faults.{Read, ◌>>=◌, FaultNumbers}
@@ -31,7 +31,7 @@ met true e r q = (refl, q)
 met false e r {a} q = err-not-ok e a q
 
 -- ── what holds of each element ──
-pub all_mapped : {A B : Type 0} (P : A → Type 0) (Q : B → Type 0) (f : A → B) → ((a : A) → P a → Q (f a)) → (l : List A) → All P l → All Q (map f l)
+pub all_mapped : {A B : Type 0} (P : A → Type 0) (Q : B → Type 0) (f : A → B) → ((a : A) → P a → Q (f a)) → (l : List A) → AllByRecursion P l → AllByRecursion Q (map f l)
 all_mapped P Q f h l ok = All-map Q f l (All-weaker P (λ a. Q (f a)) h l ok)
 
 -- ── bytes ──
@@ -79,20 +79,20 @@ walk_sound (suc n) p (a ∷ b ∷ c ∷ d ∷ rest) o =
 -- what holds of whatever the reader gives holds of all that is read
 pub each_all : {A : Type 0} (P : A → Type 0) (layer : ℕ) (f : ℕ → ℕ → Bytes → Read A) →
     ((p w : ℕ) (x : Bytes) → w < 65536 → Octets x → length x ≤ 65531 → (a : A) → f p w x ≡ Ok a → P a) →
-    (k : Walked) → Sound k → (l : List A) → each layer f k ≡ Ok l → All P l
-each_all P layer f h done s l q = subst (All P) (ok_same q) tt
+    (k : Walked) → Sound k → (l : List A) → each layer f k ≡ Ok l → AllByRecursion P l
+each_all P layer f h done s l q = subst (AllByRecursion P) (ok_same q) tt
 each_all P layer f h (bad c p) s l q = err-not-ok _ l q
 each_all P layer f h (item p w x r) s l q =
     let one = chain (f p w x) (λ a. each layer f r >>= λ l'. Ok (a ∷ l')) q in
     let more = chain (each layer f r) (λ l'. Ok (one.0 ∷ l')) one.1.1 in
-    subst (All P) (ok_same more.1.1) (h p w x s.0 s.1 s.2 one.0 one.1.0, each_all P layer f h r s.3 more.0 more.1.0)
+    subst (AllByRecursion P) (ok_same more.1.1) (h p w x s.0 s.1 s.2 one.0 one.1.0, each_all P layer f h r s.3 more.0 more.1.0)
 
 -- a reader that reads back each thing written, at any place, reads back all
-pub each-found : {A : Type 0} (layer : ℕ) (f : ℕ → ℕ → Bytes → Read A) (w : A → Attribute) (l : List A) → All (λ a. (p : ℕ) → f p (w a).word (w a).payload ≡ Ok a) l → (p : ℕ) →
+pub each-found : {A : Type 0} (layer : ℕ) (f : ℕ → ℕ → Bytes → Read A) (w : A → Attribute) (l : List A) → AllByRecursion (λ a. (p : ℕ) → f p (w a).word (w a).payload ≡ Ok a) l → (p : ℕ) →
     each layer f (found p (map w l)) ≡ Ok l
 each-found layer f w [] h p = refl
 each-found layer f w (a ∷ l) h p = rw (h.0 p, each-found layer f w l h.1 (p + rounded (4 + length (w a).payload)))
 
-pub each-written : {A : Type 0} (layer : ℕ) (f : ℕ → ℕ → Bytes → Read A) (w : A → Attribute) (l : List A) → All (λ a. (p : ℕ) → f p (w a).word (w a).payload ≡ Ok a) l → All Writable (map w l) → (p : ℕ) →
+pub each-written : {A : Type 0} (layer : ℕ) (f : ℕ → ℕ → Bytes → Read A) (w : A → Attribute) (l : List A) → AllByRecursion (λ a. (p : ℕ) → f p (w a).word (w a).payload ≡ Ok a) l → AllByRecursion Writable (map w l) → (p : ℕ) →
     each layer f (walk p (encode_all (map w l))) ≡ Ok l
 each-written layer f w l h ok p = ap (each layer f) (walk_of_encode p (map w l) ok) ∙ each-found layer f w l h p

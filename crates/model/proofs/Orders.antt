@@ -1,7 +1,7 @@
 -- One list of a page, in another order, reads as before in that order. Assumes nothing.
 use Rattle.std.proofs.Common.{◌≡◌, ℕ, zero, suc, ◌+◌, ◌≤◌, Bool, true, false, eqb, List, [], ◌∷◌, ◌++◌, map, length, Ok, sym, refl, ap, ◌∙◌, subst, arith, length-append}
 use Rattle.std.proofs.lemmas.List.{map-id, nil_from_length, take_at}
-use Rattle.std.specs.List.{AllByRecursion as All}
+use Rattle.std.specs.List.{AllByRecursion}
 use Rattle.model.specs.Numbers.{Bytes}
 use Rattle.model.specs.Faults.{Read, ◌>>=◌}
 use Rattle.model.specs.Attributes.{rounded, type_of, Attribute, attribute, Writable, encode, encode_all}
@@ -42,8 +42,8 @@ from_both g (b ∷ l) (a ∷ r) z = rw (z.0, from_both g l r z.1)
 
 -- a change T of a list and T' of its reading that go together; c, d and e are what is counted
 pub record Fine {A B : Type 0} (Q : B → A → Type 0) (Good : B → Type 0) (c d e : B → ℕ) (T : List B → List B) (T' : List A → List A) : Type 0 where
-  pub good : (l : List B) → All Good l → All Good (T l)
-  pub reads : (l : List B) (r : List A) → All Good l → Both Q l r → Both Q (T l) (T' r)
+  pub good : (l : List B) → AllByRecursion Good l → AllByRecursion Good (T l)
+  pub reads : (l : List B) (r : List A) → AllByRecursion Good l → Both Q l r → Both Q (T l) (T' r)
   pub many : (l : List B) → length (T l) ≡ length l
   pub sum_c : (l : List B) → sum_of c (T l) ≡ sum_of c l
   pub sum_d : (l : List B) → sum_of d (T l) ≡ sum_of d l
@@ -58,7 +58,7 @@ pub record One {A B : Type 0} (Q : B → A → Type 0) (Good : B → Type 0) (c 
   pub same_d : (b : B) → d (F b) ≡ d b
   pub same_e : (b : B) → e (F b) ≡ e b
 
-all-swap : {A : Type 0} (P : A → Type 0) (i : ℕ) (l : List A) → All P l → All P (swap i l)
+all-swap : {A : Type 0} (P : A → Type 0) (i : ℕ) (l : List A) → AllByRecursion P l → AllByRecursion P (swap i l)
 all-swap P i [] h = tt
 all-swap P i (a ∷ []) h = h
 all-swap P zero (a ∷ b ∷ l) h = (h.1.0, (h.0, h.1.1))
@@ -110,12 +110,12 @@ module _ {A B : Type 0} (Q : B → A → Type 0) (Good : B → Type 0) (c d e : 
       }
 
   module _ (F : B → B) (F' : A → A) (f : One Q Good c d e F F') where
-    at_good : (i : ℕ) (l : List B) → All Good l → All Good (at i F l)
+    at_good : (i : ℕ) (l : List B) → AllByRecursion Good l → AllByRecursion Good (at i F l)
     at_good i [] h = tt
     at_good zero (b ∷ l) h = (f.good b h.0, h.1)
     at_good (suc i) (b ∷ l) h = (h.0, at_good i l h.1)
 
-    at_reads : (i : ℕ) (l : List B) (r : List A) → All Good l → Both Q l r → Both Q (at i F l) (at i F' r)
+    at_reads : (i : ℕ) (l : List B) (r : List A) → AllByRecursion Good l → Both Q l r → Both Q (at i F l) (at i F' r)
     at_reads i [] [] h z = tt
     at_reads i [] (a ∷ r) h z = absurd z
     at_reads i (b ∷ l) [] h z = absurd z
@@ -311,7 +311,7 @@ module _ (m : Meaning) where
         let z = chain (all (read_action_item m y.0) d.items) (λ as'. Ok (record { tab = type_of d.word; kind_text = y.0; attributes = as' })) y.1.1 in
         record { ts = x.0; k = y.0; as' = z.0; texts = x.1.0; only = y.1.0; read = z.1.0; is = ok_same z.1.1 }
 
-    parts_in : (d : CardAction) (a : Action) → All GoodActionItem d.items → Parts d a → Parts (in_card_action T d) (in_action T' a)
+    parts_in : (d : CardAction) (a : Action) → AllByRecursion GoodActionItem d.items → Parts d a → Parts (in_card_action T d) (in_action T' a)
     unfolding Quiet
     parts_in d a good p =
         let one : p.ts ≡ p.k ∷ [] = the_kind_is 0 p.ts p.k p.only in
@@ -402,7 +402,7 @@ module _ (m : Meaning) where
       (item-one k (reorder π) (reorder π) (fine_reorder (QO k) Writable nothing nothing (size_of (λ (a : Attribute). a)) π)) n)
       (quiet_at (reorder π) n)) j)) i
 
-  order_of : (l : List PageItem) → All (GoodPageItem m) l → length (page_items_bytes l) ≤ 65531 → (spot : Spot) (π : List ℕ) (r : Reading) → read_filter m (page_items_bytes l) ≡ Ok r →
+  order_of : (l : List PageItem) → AllByRecursion (GoodPageItem m) l → length (page_items_bytes l) ≤ 65531 → (spot : Spot) (π : List ℕ) (r : Reading) → read_filter m (page_items_bytes l) ≡ Ok r →
       (read_filter m (page_items_bytes (page_items_reordered spot π l)) ≡ Ok (reading_reordered spot π r)) × (counts (reading_reordered spot π r) ≡ counts r)
   order_of l good small spot π r q =
       let f = page_items_fine spot π in

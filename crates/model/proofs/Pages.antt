@@ -1,7 +1,7 @@
 -- Every filter that reads is, as it is written, the page of a run. Assumes nothing.
 use Rattle.std.proofs.Common.{◌≡◌, ℕ, zero, suc, ◌+◌, ◌-◌, ◌*◌, ◌<◌, ◌≤◌, true, false, cond, eqb, ltb, List, [], ◌∷◌, ◌++◌, map, length, get_or, Ok, sym, refl, ap, ◌∙◌, subst, append_assoc, arith, length-append, le-ltb, eq-eqb, ne_eqb}
 use Rattle.std.proofs.lemmas.List.{append-nil, take_at, map-id}
-use Rattle.std.specs.List.{flat_map, AllByRecursion as All}
+use Rattle.std.specs.List.{flat_map, AllByRecursion}
 use Rattle.model.specs.Numbers.{Bytes, Octets, part}
 use Rattle.model.specs.Faults.{Read, ◌>>=◌}
 use Rattle.model.specs.Attributes.{rounded, type_of, Attribute, attribute, Writable, head, encode, encode_all}
@@ -196,7 +196,7 @@ module _ (m : Meaning) (n : ℕ) (small : n ≤ 65531) where
   -- one list, element by element
   reach_list : {A X : Type 0} (K : List X → Card) (turns : A → List Turn) (w : A → Attribute) (it : A → X) (P : A → Type 0) →
       ((xs : List X) (a : A) → P a → Reach (K xs) (turns a) (length (encode (w a))) (K (xs ++ it a ∷ []))) →
-      (l : List A) → All P l → (xs : List X) → Reach (K xs) (flat_map turns l) (length (encode_all (map w l))) (K (xs ++ map it l))
+      (l : List A) → AllByRecursion P l → (xs : List X) → Reach (K xs) (flat_map turns l) (length (encode_all (map w l))) (K (xs ++ map it l))
   reach_list K turns w it P h [] ok xs = as_need refl (ap K (sym (append-nil xs))) (reach-none (K xs))
   reach_list K turns w it P h (a ∷ l) ok xs =
       as_need (sym (length-append (encode (w a)) (encode_all (map w l)))) (ap K (append_assoc xs (it a ∷ []) (map it l)))
@@ -232,7 +232,7 @@ module _ (m : Meaning) (laws : BookLaws m) (n : ℕ) (small : n ≤ 65531) where
         Reach m n small (level2 l v ds u is) (put_of a ∷ []) (length (encode a)) (level2 l v ds u (is ++ ActionItem.leaf a ∷ []))
     put-leaf is a b hw o no2 reads = as_need m n small (sym (put-length a.word a.payload)) refl (put2 m n small l v ds u is a.word a.payload b hw o no2 reads)
 
-    options-reach : (is : List ActionItem) (os : List Attribute) → All (λ o. Writable o × Octets o.payload) os →
+    options-reach : (is : List ActionItem) (os : List Attribute) → AllByRecursion (λ o. Writable o × Octets o.payload) os →
         Reach m n small (level2 l v ds u is) (attribute_turns (options os)) (length (encode (write_attribute (options os)))) (level2 l v ds u (is ++ ActionItem.nest 0x8002 os ∷ []))
     options-reach is os ok =
         let K : List Attribute → Card = λ xs. level3 l v ds u is 0x8002 xs in
@@ -274,7 +274,7 @@ module _ (m : Meaning) (laws : BookLaws m) (n : ℕ) (small : n ≤ 65531) where
       Reach m n small (level0 l) (put_of a ∷ []) (length (encode a)) (level0 (l ++ PageItem.leaf a ∷ []))
   put-page-item l a o hw ox no7 reads = as_need m n small (sym (put-length a.word a.payload)) refl (put0 m n small l a.word a.payload o hw ox no7 reads)
 
-  actions-reach : (l : List PageItem) (as' : List Action) → All (SteadyAction m laws) as' → length (encode_all (map write_action as')) ≤ 65531 →
+  actions-reach : (l : List PageItem) (as' : List Action) → AllByRecursion (SteadyAction m laws) as' → length (encode_all (map write_action as')) ≤ 65531 →
       Reach m n small (level0 l) (option_turns (actions as')) (length (encode (write_option (actions as')))) (level0 (l ++ PageItem.nest 7 (map action_card_action as') ∷ []))
   actions-reach l as' ok short =
       let I = encode_all (map write_action as') in

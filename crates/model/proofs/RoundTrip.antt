@@ -1,7 +1,7 @@
 -- A filter that is written out reads as before; and so two are written alike exactly when their readings are equal. Assumes nothing.
 use Rattle.std.proofs.Common.{◌≡◌, ℕ, zero, suc, ◌+◌, ◌*◌, ◌/◌, ◌%◌, ◌<◌, ◌≤◌, Bool, cond, eqb, ltb, List, ◌∷◌, length, get_or, Ok, Err, sym, refl, ap, ◌∙◌, subst, arith, ltb-false, le-ltb, eqb-true}
 use Rattle.std.proofs.ByRecursion.{All-weaker}
-use Rattle.std.specs.List.{AllByRecursion as All}
+use Rattle.std.specs.List.{AllByRecursion}
 use Rattle.model.specs.Numbers.{Bytes, Octets, number, bytes_of}
 use Rattle.model.specs.Faults.{Read, ◌>>=◌, fault, needing}
 use Rattle.model.specs.Attributes.{type_of, Writable}
@@ -29,7 +29,7 @@ Known m laws (link n) = Unit {0}
 Known m laws (divisor n) = Unit {0}
 Known m laws (selector s) = Unit {0}
 Known m laws (police x) = Octets x
-Known m laws (actions l) = All (SteadyAction m laws) l
+Known m laws (actions l) = AllByRecursion (SteadyAction m laws) l
 Known m laws (indev x) = Octets x
 Known m laws (pcnt x) = Octets x
 Known m laws (mark x) = Octets x
@@ -55,7 +55,7 @@ module _ (m : Meaning) (laws : BookLaws m) where
   selector_steady : (s : Selector) → KeptSelector s → SteadyOption m laws (selector s)
   selector_steady s h = record { known = tt; word16 = omega arith; again = λ p _. ap (λ (r : Read Selector). r >>= λ s. Ok (selector s)) (read_selector_again p s h) }
 
-  actions_steady : (l : List Action) → All (SteadyAction m laws) l → SteadyOption m laws (actions l)
+  actions_steady : (l : List Action) → AllByRecursion (SteadyAction m laws) l → SteadyOption m laws (actions l)
   actions_steady l s = record {
     known = s;
     word16 = omega arith;
@@ -134,11 +134,11 @@ module _ (m : Meaning) (laws : BookLaws m) where
     pub option_steady : read_option m p w x ≡ Ok a → SteadyOption m laws a
     option_steady q = by_type (type_of w) refl q
 
-  pub all_steady : (bs : Bytes) → Octets bs → (r : Reading) → read_options m bs ≡ Ok r → All (SteadyOption m laws) r
+  pub all_steady : (bs : Bytes) → Octets bs → (r : Reading) → read_options m bs ≡ Ok r → AllByRecursion (SteadyOption m laws) r
   all_steady bs o r q = each_all (SteadyOption m laws) 1 (read_option m) option_steady (walk 0 bs) (walk_sound (length bs) 0 bs o) r q
 
   -- what is written reads as before, however long it is
-  pub again_options : (r : Reading) → All (SteadyOption m laws) r → All (λ o. length (write_option o).payload ≤ 65531) r → read_options m (written r) ≡ Ok r
+  pub again_options : (r : Reading) → AllByRecursion (SteadyOption m laws) r → AllByRecursion (λ o. length (write_option o).payload ≤ 65531) r → read_options m (written r) ≡ Ok r
   again_options r s short =
       let both = all_both (SteadyOption m laws) (λ o. length (write_option o).payload ≤ 65531) r s short in
       each-written 1 (read_option m) write_option r
@@ -154,8 +154,8 @@ round_trip m laws bs o r q short =
     ap (λ (t : Bool). cond t (Err (fault 1 0 1)) (read_options m (written r))) (le-ltb 65531 (length (written r)) short) ∙ inner
 
 -- ── canonical ──
-fits_all : (f : ℕ → ℕ → Bytes → Read FilterOption) (k : Walked) (r : Reading) → each 1 f k ≡ Ok r → fitting k r ≡ Ok tt → All (λ o. length (write_option o).payload ≤ 65531) r
-fits_all f done r q h = subst (All (λ o. length (write_option o).payload ≤ 65531)) (ok_same q) tt
+fits_all : (f : ℕ → ℕ → Bytes → Read FilterOption) (k : Walked) (r : Reading) → each 1 f k ≡ Ok r → fitting k r ≡ Ok tt → AllByRecursion (λ o. length (write_option o).payload ≤ 65531) r
+fits_all f done r q h = subst (AllByRecursion (λ o. length (write_option o).payload ≤ 65531)) (ok_same q) tt
 fits_all f (bad c p) r q h = err-not-ok _ r q
 fits_all f (item p w x rest) r q h =
     let one = chain (f p w x) (λ a. each 1 f rest >>= λ l'. Ok (a ∷ l')) q in
@@ -164,7 +164,7 @@ fits_all f (item p w x rest) r q h =
     let h' : fitting (item p w x rest) (one.0 ∷ more.0) ≡ Ok tt = subst (λ (l : Reading). fitting (item p w x rest) l ≡ Ok tt) (sym same) h in
     let g = passed (ltb 65531 (length (write_option one.0).payload)) (fault 15 p 1) (fitting rest more.0) h' in
     let short : length (write_option one.0).payload ≤ 65531 = ltb-false 65531 (length (write_option one.0).payload) g.0 in
-    subst (All (λ o. length (write_option o).payload ≤ 65531)) same (short, fits_all f rest more.0 more.1.0 g.1)
+    subst (AllByRecursion (λ o. length (write_option o).payload ≤ 65531)) same (short, fits_all f rest more.0 more.1.0 g.1)
 
 -- what writing out says: the reading, that its form is x, and that x reads as the reading
 pub wrote : (m : Meaning) → BookLaws m → (bs : Bytes) → Octets bs → (free : ℕ) (x : Bytes) → write_out m free bs ≡ Ok x →

@@ -1,7 +1,7 @@
 -- After every run the page's bytes are its card's, and so read. Assumes nothing.
 use Rattle.std.proofs.Common.{◌≡◌, ℕ, zero, suc, ◌+◌, ◌<◌, ◌≤◌, Bool, false, cond, eqb, List, [], ◌∷◌, ◌++◌, map, length, Ok, Err, sym, refl, ap, ◌∙◌, subst, ap₂, append_assoc, zero-add, arith, length-append, le-ltb, ne_eqb}
 use Rattle.std.proofs.lemmas.List.{take_at}
-use Rattle.std.specs.List.{AllByRecursion as All}
+use Rattle.std.specs.List.{AllByRecursion}
 use Rattle.model.specs.Numbers.{Bytes}
 use Rattle.model.specs.Faults.{Read, ◌>>=◌, fault}
 use Rattle.model.specs.Attributes.{rounded, Writable, head, encode, encode_all}
@@ -54,17 +54,17 @@ module _ (m : Meaning) where
   abbrev Agree : List PageItem → Reading → Type 0
   Agree l r = Both (Reads (read_option m) page_action_item_attribute (read_page_item m)) l r × (counts r ≡ page_items_counts l)
 
-  options_from : (l : List PageItem) → All (GoodPageItem m) l → (r : Reading) × (Both (Reads (read_option m) page_action_item_attribute (read_page_item m)) l r × (sum_of (λ o. length (actions_of o)) r ≡ sum_of (λ e. length (card_actions_in e)) l)
+  options_from : (l : List PageItem) → AllByRecursion (GoodPageItem m) l → (r : Reading) × (Both (Reads (read_option m) page_action_item_attribute (read_page_item m)) l r × (sum_of (λ o. length (actions_of o)) r ≡ sum_of (λ e. length (card_actions_in e)) l)
       × (sum_of (λ o. sum_of (λ (a : Action). sum_of options_in a.attributes) (actions_of o)) r ≡ sum_of (λ e. sum_of (λ (d : CardAction). sum_of options_of d.items) (card_actions_in e)) l))
   options_from [] h = ([], (tt, refl, refl))
   options_from (e ∷ l) h =
       let r = options_from l h.1 in
       (h.0.made ∷ r.0, ((h.0.reads, r.1.0), ap₂ ◌+◌ h.0.count-actions r.1.1, ap₂ ◌+◌ h.0.count-options r.1.2))
 
-  all_writable : (l : List PageItem) → All (GoodPageItem m) l → All Writable (map page_action_item_attribute l)
+  all_writable : (l : List PageItem) → AllByRecursion (GoodPageItem m) l → AllByRecursion Writable (map page_action_item_attribute l)
   all_writable l h = all_mapped (GoodPageItem m) Writable page_action_item_attribute (λ e g. g.writable) l h
 
-  pub page_reads : (l : List PageItem) → All (GoodPageItem m) l → length (page_items_bytes l) ≤ 65531 →
+  pub page_reads : (l : List PageItem) → AllByRecursion (GoodPageItem m) l → length (page_items_bytes l) ≤ 65531 →
       (r : Reading) × ((read_filter m (page_items_bytes l) ≡ Ok r) × (page_items_reading m l ≡ Ok r) × (counts r ≡ page_items_counts l))
   page_reads l h small =
       let r = options_from l h in
@@ -80,7 +80,7 @@ module _ (m : Meaning) where
       )
 
   -- the reader stops at a head whose length field is 0
-  stops : (n p c d : ℕ) (rest : Bytes) (l : List PageItem) → All (GoodPageItem m) l → length (page_items_bytes l) < n →
+  stops : (n p c d : ℕ) (rest : Bytes) (l : List PageItem) → AllByRecursion (GoodPageItem m) l → length (page_items_bytes l) < n →
       each 1 (read_option m) (walk_in n p (page_items_bytes l ++ (0 ∷ 0 ∷ c ∷ d ∷ rest))) ≡ Err (fault 8 (p + length (page_items_bytes l)) 1)
   stops zero p c d rest l h fuel = absurd (omega arith)
   stops (suc n) p c d rest [] h fuel = rw (le-ltb (4 + length rest) 0 (omega arith), walk_in) (ap {B = Read Reading} (λ q. Err (fault 8 q 1)) (omega arith))
@@ -98,7 +98,7 @@ module _ (m : Meaning) where
       ∙ ap (λ (z : Read Reading). z >>= λ r. Ok (h.0.made ∷ r)) i
       ∙ ap {B = Read Reading} (λ q. Err (fault 8 q 1)) far
 
-  stopped : (l : List PageItem) (v : ℕ) (rest : Bytes) → All (GoodPageItem m) l → length (page_items_bytes l ++ (head 0 v ++ rest)) ≤ 65531 → read_filter m (page_items_bytes l ++ (head 0 v ++ rest)) ≡ Err (fault 8 (length (page_items_bytes l)) 1)
+  stopped : (l : List PageItem) (v : ℕ) (rest : Bytes) → AllByRecursion (GoodPageItem m) l → length (page_items_bytes l ++ (head 0 v ++ rest)) ≤ 65531 → read_filter m (page_items_bytes l ++ (head 0 v ++ rest)) ≡ Err (fault 8 (length (page_items_bytes l)) 1)
   stopped l v rest h small =
       let B = page_items_bytes l ++ (head 0 v ++ rest) in
       let size : length B ≡ length (page_items_bytes l) + length (head 0 v ++ rest) = length-append (page_items_bytes l) (head 0 v ++ rest) in

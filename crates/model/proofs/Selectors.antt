@@ -3,7 +3,7 @@ use Rattle.std.proofs.Common.{◌≡◌, ℕ, zero, suc, ◌+◌, ◌-◌, ◌*�
 use mathlib.Core.List.{reverse_aux}
 use native.Mathlib.Nat.{pow-le-pow_right}
 use lib.ListN.{length-reverse}
-use Rattle.std.specs.List.{AllByRecursion as All}
+use Rattle.std.specs.List.{AllByRecursion}
 use Rattle.model.specs.Numbers.{Bytes, Octets, number, bytes_of, part, le, be, as_signed, as_unsigned}
 use Rattle.model.specs.Faults.{Read, needing}
 use Rattle.model.specs.Records.{Key, key}
@@ -69,7 +69,7 @@ key-kept bs o = record {
   offmask = kept 4 (le 12 4 bs) (le-lt 12 4 bs o) (le-lt 12 4 bs o);
 }
 
-keys_kept : (n : ℕ) (bs : Bytes) → Octets bs → All KeptKey (keys_in n bs)
+keys_kept : (n : ℕ) (bs : Bytes) → Octets bs → AllByRecursion KeptKey (keys_in n bs)
 keys_kept zero bs o = tt
 keys_kept (suc n) bs o = (key-kept bs o, keys_kept n (drop 16 bs) (octets_drop 16 bs o))
 
@@ -80,7 +80,7 @@ length-keys_in (suc n) bs = ap suc (length-keys_in n (drop 16 bs))
 key_again : (k : Key) (more : Bytes) → KeptKey k → key.decode (key.encode k ++ more) ≡ k
 key_again k more h = λ i. record { mask = h.mask i; val = h.val i; off = h.off i; offmask = h.offmask i }
 
-keys_again : (ks : List Key) → All KeptKey ks → keys_in (length ks) (encode_keys ks) ≡ ks
+keys_again : (ks : List Key) → AllByRecursion KeptKey ks → keys_in (length ks) (encode_keys ks) ≡ ks
 keys_again [] h = refl
 keys_again (k ∷ ks) h = λ i. key_again k (encode_keys ks) h.0 i ∷ keys_again ks h.1 i
 
@@ -98,7 +98,7 @@ pub record KeptSelector (s : Selector) : Type 0 where
   pub offoff : Kept 2 s.offoff
   pub hoff : Kept 2 s.hoff
   pub hmask : number (bytes_of 4 s.hmask) ≡ s.hmask
-  pub keys : All KeptKey s.keys
+  pub keys : AllByRecursion KeptKey s.keys
   pub many : length s.keys ≡ s.nkeys
 
 pub selector-kept : (x : Bytes) → Octets x → KeptSelector (decode x)

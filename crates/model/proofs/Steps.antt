@@ -4,7 +4,7 @@ use borrow.Author.Tests.{eqb-false}
 use Rattle.std.proofs.ByRecursion.{All-push}
 use Rattle.std.proofs.lemmas.List.{append-nil, take_at, drop_at, drop-drop}
 use Rattle.std.proofs.lemmas.Bool.{not-true}
-use Rattle.std.specs.List.{AllByRecursion as All}
+use Rattle.std.specs.List.{AllByRecursion}
 use Rattle.model.specs.Numbers.{Bytes, le_bytes, part}
 use Rattle.model.specs.Faults.{Read, ◌>>=◌, FaultNumbers}
 use Rattle.model.specs.Attributes.{rounded, type_of, Attribute, attribute, Writable, head, encode, encode_all}
@@ -88,10 +88,10 @@ state_path n h e f = λ i. record { page = record { size = n; used = e i; heads 
 
 module _ (m : Meaning) where
   abbrev pub GoodCard : Card → Type 0
-  GoodCard (level0 l) = All (GoodPageItem m) l
-  GoodCard (level1 l v ds) = All (GoodPageItem m) l × (7 ≡ v) × All (GoodCardAction m) ds
-  GoodCard (level2 l v ds u is) = All (GoodPageItem m) l × (7 ≡ v) × All (GoodCardAction m) ds × (u < 65536) × All GoodActionItem is
-  GoodCard (level3 l v ds u is o os) = All (GoodPageItem m) l × (7 ≡ v) × All (GoodCardAction m) ds × (u < 65536) × All GoodActionItem is × (0x8002 ≡ o) × All Writable os
+  GoodCard (level0 l) = AllByRecursion (GoodPageItem m) l
+  GoodCard (level1 l v ds) = AllByRecursion (GoodPageItem m) l × (7 ≡ v) × AllByRecursion (GoodCardAction m) ds
+  GoodCard (level2 l v ds u is) = AllByRecursion (GoodPageItem m) l × (7 ≡ v) × AllByRecursion (GoodCardAction m) ds × (u < 65536) × AllByRecursion GoodActionItem is
+  GoodCard (level3 l v ds u is o os) = AllByRecursion (GoodPageItem m) l × (7 ≡ v) × AllByRecursion (GoodCardAction m) ds × (u < 65536) × AllByRecursion GoodActionItem is × (0x8002 ≡ o) × AllByRecursion Writable os
 
   -- the state is that of a good card, with memory of n bytes
   abbrev pub Holds : ℕ → Card → State → Type 0

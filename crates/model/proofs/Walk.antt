@@ -2,7 +2,7 @@
 use Rattle.std.proofs.Common.{◌≡◌, ℕ, zero, suc, ◌+◌, ◌-◌, ◌≤◌, List, [], ◌∷◌, ◌++◌, length, take, drop, replicate, refl, ap, ◌∙◌, append_assoc, arith, length-append, le-ltb}
 use lib.ListN.{length-replicate}
 use Rattle.std.proofs.lemmas.List.{take_at, drop_at}
-use Rattle.std.specs.List.{AllByRecursion as All}
+use Rattle.std.specs.List.{AllByRecursion}
 use Rattle.model.specs.Numbers.{Bytes, number, bytes_of}
 use Rattle.model.specs.Attributes.{rounded, Attribute, Writable, padded, encode, encode_all}
 use Rattle.model.specs.Walk.{Walked, item, walk_in, found}
@@ -41,7 +41,7 @@ step_over n p a more ok =
 pub length-encode : (a : Attribute) → length (encode a) ≡ rounded (4 + length a.payload)
 length-encode a = let h : length (padded a.payload) ≡ rounded (length a.payload) = length-padded a.payload in omega arith
 
-pub walk_in-encode : (n p : ℕ) (l : List Attribute) → All Writable l → length (encode_all l) ≤ n → walk_in n p (encode_all l) ≡ found p l
+pub walk_in-encode : (n p : ℕ) (l : List Attribute) → AllByRecursion Writable l → length (encode_all l) ≤ n → walk_in n p (encode_all l) ≡ found p l
 walk_in-encode zero p [] ok h = refl
 walk_in-encode (suc n) p [] ok h = refl
 walk_in-encode zero p (a ∷ l) ok h = absurd (omega arith)

@@ -1,6 +1,6 @@
 -- Writing out answers the first of its causes that holds. Assumes nothing.
 use Rattle.std.proofs.Common.{◌≡◌, ℕ, zero, suc, ◌+◌, ◌*◌, ◌/◌, ◌%◌, ◌<◌, ◌≤◌, Bool, true, false, cond, ltb, ◌⊎◌, List, [], ◌∷◌, length, get_or, drop, Ok, Err, sym, refl, ap, ◌∙◌, subst, inl, inr, arith, ltb-false, ltb-true}
-use Rattle.std.specs.List.{AllByRecursion as All}
+use Rattle.std.specs.List.{AllByRecursion}
 use Rattle.model.specs.Numbers.{Bytes, Octets, number, bytes_of}
 use Rattle.model.specs.Faults.{Read, ◌>>=◌, fault}
 use Rattle.model.specs.Attributes.{type_of}
@@ -28,7 +28,7 @@ Plain OptionForm.as-default = Unit {0}
 Plain (OptionForm.as_u32 f) = (n : ℕ) → length (write_option (f n)).payload ≡ 4
 Plain (OptionForm.as_raw f) = (x : Bytes) → (write_option (f x)).payload ≡ x
 
-all-at : {A : Type 0} (P : A → Type 0) (l : List A) (d : A) → All P l → P d → (i : ℕ) → P (get_or l i d)
+all-at : {A : Type 0} (P : A → Type 0) (l : List A) (d : A) → AllByRecursion P l → P d → (i : ℕ) → P (get_or l i d)
 all-at P [] d h last i = last
 all-at P (a ∷ l) d h last zero = h.0
 all-at P (a ∷ l) d h last (suc i) = all-at P l d h.1 last i
@@ -84,14 +84,14 @@ fits_more p w x k a r false e b (inr h) = inr (go, rw e h.1)
     go zero f = let long : 65531 < length (write_option a).payload = f.1.1 in let short : length (write_option a).payload ≤ 65531 = ltb-false 65531 (length (write_option a).payload) e in omega arith
     go (suc i) f = h.0 i f.1
 
-fits : (f : ℕ → ℕ → Bytes → Read FilterOption) (k : Walked) (r : Reading) → each 1 f k ≡ Ok r → All Bounded r → Fits k r
+fits : (f : ℕ → ℕ → Bytes → Read FilterOption) (k : Walked) (r : Reading) → each 1 f k ≡ Ok r → AllByRecursion Bounded r → Fits k r
 fits f done r q b = subst (Fits done) (ok_same q) (inr (λ i h. h, refl))
 fits f (bad c p) r q b = err-not-ok _ r q
 fits f (item p w x k) r q b =
     let one = chain (f p w x) (λ a. each 1 f k >>= λ l. Ok (a ∷ l)) q in
     let more = chain (each 1 f k) (λ l. Ok (one.0 ∷ l)) one.1.1 in
     let same : one.0 ∷ more.0 ≡ r = ok_same more.1.1 in
-    let b' : All Bounded (one.0 ∷ more.0) = subst (All Bounded) (sym same) b in
+    let b' : AllByRecursion Bounded (one.0 ∷ more.0) = subst (AllByRecursion Bounded) (sym same) b in
     subst (Fits (item p w x k)) same (fits_more p w x k one.0 more.0 (ltb 65531 (length (write_option one.0).payload)) refl b'.0 (fits f k more.0 more.1.0 b'.1))
 
 -- ── the law ──

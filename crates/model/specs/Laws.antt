@@ -1,6 +1,6 @@
 -- What is claimed of reading, writing out and the page: for every book's meaning that keeps the laws. Assumes nothing.
 use Rattle.std.specs.Prelude.{◌≡◌, ℕ, ◌+◌, ◌-◌, ◌<◌, ◌≤◌, List, [], length, drop, Ok, Err}
-use Rattle.std.specs.List.{AllByRecursion as All}
+use Rattle.std.specs.List.{AllByRecursion}
 use Rattle.model.specs.Numbers.{Bytes, Octets, part, le}
 use Rattle.model.specs.Faults.{fault}
 use Rattle.model.specs.Attributes.{rounded, Attribute, Writable, encode_all}
@@ -29,7 +29,7 @@ pub record WalkGoesByHeads : Type 0 where
 
 -- the walk over attributes that are written finds them
 abbrev pub WalkOfEncode : Type 0
-WalkOfEncode = (p : ℕ) (l : List Attribute) → All Writable l → walk p (encode_all l) ≡ found p l
+WalkOfEncode = (p : ℕ) (l : List Attribute) → AllByRecursion Writable l → walk p (encode_all l) ≡ found p l
 
 -- a selector that was read is read again from what is written, wherever it stands
 abbrev pub SelectorReadsAgain : Type 0

@@ -1,13 +1,13 @@
 -- Bytes, and numbers in them. Assumes nothing.
 -- A byte is a number below 256: `Octets bs` says that each of bs is.
 use Rattle.std.specs.Prelude.{ℕ, zero, suc, ◌+◌, ◌-◌, ◌*◌, ◌/◌, ◌%◌, ◌^◌, ◌<◌, cond, List, [], ◌∷◌, reverse, take, drop, ℤ, pos, negsuc, nat_lt}
-use Rattle.std.specs.List.{AllByRecursion as All}
+use Rattle.std.specs.List.{AllByRecursion}
 
 abbrev pub Bytes : Type 0
 Bytes = List ℕ
 
 abbrev pub Octets : Bytes → Type 0
-Octets bs = All (λ b. b < 256) bs
+Octets bs = AllByRecursion (λ b. b < 256) bs
 
 -- the number whose bytes are bs, the lowest first; and the n lowest bytes of v
 abbrev pub number : Bytes → ℕ

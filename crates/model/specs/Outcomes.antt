@@ -1,6 +1,6 @@
 -- Outcomes and mirror actions by name, and the outcome that any parameter record tells. Assumes nothing.
 use Rattle.std.specs.Prelude.{◌≡◌, ◌≤◌, List, [], ◌∷◌, length, ℤ, pos, negsuc, slice_index_or}
-use Rattle.std.specs.List.{AllByRecursion as All}
+use Rattle.std.specs.List.{AllByRecursion}
 use Rattle.model.specs.Numbers.{Bytes, signed}
 use Rattle.model.specs.Records.{Generic, TunnelKey, Mirror, Nat, Layout, generic, tunnel_key, mirror, nat}
 
@@ -52,8 +52,8 @@ named_mirror_actions = egress-redir ∷ egress-mirror ∷ ingress-redir ∷ ingr
 pub record NamesTellNumbers : Type 0 where
   pub of_outcomes : (z : ℤ) → outcome_number (outcome z) ≡ z
   pub of_mirror_actions : (z : ℤ) → mirror_action_number (mirror_action z) ≡ z
-  pub by_outcome : All (λ o. outcome (outcome_number o) ≡ o) named_outcomes
-  pub by_mirror_action : All (λ a. mirror_action (mirror_action_number a) ≡ a) named_mirror_actions
+  pub by_outcome : AllByRecursion (λ o. outcome (outcome_number o) ≡ o) named_outcomes
+  pub by_mirror_action : AllByRecursion (λ a. mirror_action (mirror_action_number a) ≡ a) named_mirror_actions
 
 -- A parameter record also answers its common head, the generic record in its first 20 bytes; its outcome is told through that.
 pub record Parameters (R : Type 0) : Type 0 where

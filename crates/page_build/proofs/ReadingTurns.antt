@@ -1,7 +1,7 @@
 -- The turns found by walking over what is written of a reading are the reading's. Assumes nothing.
 use Rattle.std.proofs.Common.{◌≡◌, ℕ, ◌+◌, ◌%◌, ◌<◌, ◌≤◌, Bool, cond, eqb, List, [], ◌∷◌, ◌++◌, map, length, Ok, sym, refl, ap, ◌∙◌, ap₂, arith}
 use Rattle.std.proofs.lemmas.Bool.{ne_eqb}
-use Rattle.std.specs.List.{flat_map, AllByRecursion as All}
+use Rattle.std.specs.List.{flat_map, AllByRecursion}
 use Rattle.model.specs.Numbers.{Bytes, Octets}
 use Rattle.model.specs.Attributes.{type_of, rounded, Attribute, Writable, encode_all}
 use Rattle.model.specs.Walk.{walk, found}
@@ -18,11 +18,11 @@ use Rattle.model.proofs.RoundTrip.{SteadyOption, all_steady, read_inside}
 use Rattle.page_build.specs.Fillings.{TurnsAt, row_turns, nest_turns, put_turns, option_turns_at, attribute_turns_at, action_turns_at, filter_turns_at}
 
 module _ {A : Type 0} (f : TurnsAt) (t : A → List Turn) (w : A → Attribute) (P : A → Type 0) (same : (p : ℕ) (a : A) → P a → f p (w a).word (w a).payload ≡ t a) where
-  row-found : (p : ℕ) (l : List A) → All P l → row_turns f (found p (map w l)) ≡ flat_map t l
+  row-found : (p : ℕ) (l : List A) → AllByRecursion P l → row_turns f (found p (map w l)) ≡ flat_map t l
   row-found p [] ok = refl
   row-found p (a ∷ l) ok = ap₂ ◌++◌ (same p a ok.0) (row-found (p + rounded (4 + length (w a).payload)) l ok.1)
 
-  row_written : (p : ℕ) (l : List A) → ((a : A) → P a → Writable (w a)) → All P l → row_turns f (walk p (encode_all (map w l))) ≡ flat_map t l
+  row_written : (p : ℕ) (l : List A) → ((a : A) → P a → Writable (w a)) → AllByRecursion P l → row_turns f (walk p (encode_all (map w l))) ≡ flat_map t l
   row_written p l ok h = ap (row_turns f) (walk_of_encode p (map w l) (all_mapped P Writable w ok l h)) ∙ row-found p l h
 
 -- ── the options of an action ──
@@ -30,11 +30,11 @@ options-found : (p : ℕ) (l : List Attribute) → row_turns option_turns_at (fo
 options-found p [] = refl
 options-found p (a ∷ l) = ap (λ (ts : List Turn). put_of a ∷ ts) (options-found (p + rounded (4 + length a.payload)) l)
 
-all_writable : (l : List Attribute) → All (λ o. Writable o × Octets o.payload) l → All Writable l
+all_writable : (l : List Attribute) → AllByRecursion (λ o. Writable o × Octets o.payload) l → AllByRecursion Writable l
 all_writable [] h = tt
 all_writable (a ∷ l) h = (h.0.0, all_writable l h.1)
 
-options-written : (p : ℕ) (l : List Attribute) → All (λ o. Writable o × Octets o.payload) l → row_turns option_turns_at (walk p (encode_all l)) ≡ flat_map (λ a. put_of a ∷ []) l
+options-written : (p : ℕ) (l : List Attribute) → AllByRecursion (λ o. Writable o × Octets o.payload) l → row_turns option_turns_at (walk p (encode_all l)) ≡ flat_map (λ a. put_of a ∷ []) l
 options-written p l h = ap (row_turns option_turns_at) (walk_of_encode p l (all_writable l h)) ∙ options-found p l
 
 module _ (m : Meaning) (laws : BookLaws m) where
