@@ -2,7 +2,7 @@
 use Rattle.std.proofs.Common.{◌≡◌, ℕ, ◌+◌, ◌*◌, List, [], ◌∷◌, ◌++◌, map, length, IfOk, Ok, Err, Result, sym, refl, ap, ◌∙◌, subst, zero-add, arith, length-append, Bor}
 use Rattle.model.specs.Numbers.{Bytes, le_bytes}
 use Rattle.model.specs.Attributes.{Attribute, attribute, encode, encode_all}
-use Rattle.model.specs.Faults.{FaultNumbers, Read, ◌>>=◌}
+use Rattle.model.specs.Faults.{FaultNumbers, numbers, Read, ◌>>=◌}
 use Rattle.model.specs.Walk.{Walked, done, bad, item, walk}
 use Rattle.model.specs.Book.{Meaning}
 use Rattle.model.specs.Counts.{sum_of, options_in}
@@ -90,6 +90,13 @@ module _ (m : Meaning) (k : Bytes) where
       ap (λ (y : TcActionAttribute). read_in_attribute m k (attribute_content y)) (sym same) ∙ attribute-holds u ∙ ap (λ (y : Read ActionAttribute). y >>= λ a. Ok (of_attribute a)) e
   attribute_reads_inside p w x (Err d) q e h v i = let z : ◌≡◌ {A = ℕ} 0 1 = cc in absurd (omega arith)
 
+  pub attribute-refused : (p w : ℕ) (x : Bytes) (r : Result TcActionAttribute DecodeError) (q : Result TcActionAttribute Fault) → attributes.attribute_reads m k p r ≡ read_attribute m k p w x → q ≡ placed r p Layer.ActionAttribute →
+      (f : Fault) → q ≡ Err f → Err (numbers f) ≡ attribute_summary m k p w x
+  attribute-refused p w x (Ok u) q e h f i = cc
+  attribute-refused p w x (Err d) q e h f i =
+      let same : f ≡ record { cause = d.cause; place = p; layer = Layer.ActionAttribute; need = d.need; number = 0 } = cc in
+      ap (λ (y : Fault). Err (numbers y)) same ∙ ap (λ (y : Read ActionAttribute). y >>= λ a. Ok (of_attribute a)) e
+
 actions-around : (l : List Action) → around 7 items_of options_of (map of_action l) ≡ of_option (actions l)
 actions-around l = λ i. record {
   written = attribute 7 (row_of of_action write_action (λ a. refl) l i);
@@ -118,6 +125,13 @@ module _ (m : Meaning) where
       let same : u ≡ v = cc in
       ap (λ (y : TcFilterU32Option). read_in_option m (option_content y)) (sym same) ∙ option-holds b u p ∙ ap (λ (y : Read FilterOption). y >>= λ o. Ok (of_option o)) e
   option_reads_inside b (Err d) q e p h v i = let z : ◌≡◌ {A = ℕ} 0 1 = cc in absurd (omega arith)
+
+  pub option-refused : (b : NlaBuffer) (r : Result TcFilterU32Option DecodeError) (q : Result TcFilterU32Option Fault) → filter-options.option_reads m b.place r ≡ read_option m b.place b.word b.value.now →
+      q ≡ placed r b.place Layer.FilterOption → (f : Fault) → q ≡ Err f → Err (numbers f) ≡ option_summary m b.place b.word b.value.now
+  option-refused b (Ok u) q e h f i = cc
+  option-refused b (Err d) q e h f i =
+      let same : f ≡ record { cause = d.cause; place = b.place; layer = Layer.FilterOption; need = d.need; number = 0 } = cc in
+      ap (λ (y : Fault). Err (numbers y)) same ∙ ap (λ (y : Read FilterOption). y >>= λ o. Ok (of_option o)) e
 
 -- what an attribute holds is a part of it
 module _ (b : NlaBuffer) where

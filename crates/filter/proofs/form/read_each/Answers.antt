@@ -7,6 +7,7 @@ use Rattle.filter.specs.declared.tally.Tally.{Tally}
 use Rattle.filter.specs.Tallies.{joined}
 use Rattle.filter.specs.Summaries.{tally_behind}
 use Rattle.filter.proofs.Rows.{found-one, broke, tally_broken, tally-more, tally-bad, tally_done}
+use Rattle.filter.proofs.Shrinks.{shrinks}
 use Rattle.filter.proofs.form.read_each.Goals as goal
 
 pub read-requires : goal.read-requires
@@ -46,14 +47,15 @@ returns-in_err-read g c =
 pub join-tally-requires : goal.join-tally-requires
 join-tally-requires g c =
     let step = found-one c.loop-nla.nla-iterator c.next.new.self c.in-Some.nla c.in_ok-nla.nla c.in_ok-nla.was c.in-Some.ensures.steps in
+    let less = shrinks c.loop-nla.nla-iterator c.next.new.self c.in_ok-nla.nla step in
     let b = c.in_ok-read.ensures.bounds in
     let short = c.args.walk.inside in
     let inv = c.loop-nla.invariant in
     record {
-      items = omega (arith, step.4, b.1.0, short, c.requires, inv.5);
-      actions = omega (arith, step.4, b.1.1, short, c.requires, inv.6);
-      options = omega (arith, step.4, b.1.2, short, c.requires, inv.7);
-      length = omega (arith, step.4, b.1.3, short, c.requires, inv.8);
+      items = omega (arith, less, b.1.0, short, c.requires, inv.5);
+      actions = omega (arith, less, b.1.1, short, c.requires, inv.6);
+      options = omega (arith, less, b.1.2, short, c.requires, inv.7);
+      length = omega (arith, less, b.1.3, short, c.requires, inv.8);
     }
 
 pub loop-nla-preserved : goal.loop-nla-preserved
@@ -64,6 +66,7 @@ loop-nla-preserved g c =
     let reads = g.F.Form.reads c.args.form.now in
     let layer = layer_number c.args.walk.layer in
     let inv = c.loop-nla.invariant in
+    let less = shrinks c.loop-nla.nla-iterator c.next.new.self a step in
     let b = c.in_ok-read.ensures.bounds in
     let j = c.join-tally.ensures in
     let h = sym c.read.ensures.value ∙ ap answered c.in_ok-read.was in
@@ -76,10 +79,10 @@ loop-nla-preserved g c =
           ∙ inv.2,
       step.2 ∙ inv.3,
       step.3 ∙ inv.4,
-      omega (arith, ap (λ (t : Tally). t.items + length rest) j, step.4, b.1.0, b.0, inv.5),
-      omega (arith, ap (λ (t : Tally). t.actions + length rest) j, step.4, b.1.1, inv.6),
-      omega (arith, ap (λ (t : Tally). t.action_options + length rest) j, step.4, b.1.2, inv.7),
-      omega (arith, ap (λ (t : Tally). t.length + 2 * length rest) j, step.4, b.1.3, inv.8),
+      omega (arith, ap (λ (t : Tally). t.items + length rest) j, less, b.1.0, b.0, inv.5),
+      omega (arith, ap (λ (t : Tally). t.actions + length rest) j, less, b.1.1, inv.6),
+      omega (arith, ap (λ (t : Tally). t.action_options + length rest) j, less, b.1.2, inv.7),
+      omega (arith, ap (λ (t : Tally). t.length + 2 * length rest) j, less, b.1.3, inv.8),
     )
 
 pub returns : goal.returns

@@ -9,10 +9,15 @@ use Rattle.tc_filter.specs.declared.content.Content.{Content}
 use Rattle.filter.specs.Tallies.{Bounded}
 use Rattle.tc_filter.specs.Leaves.{content_meant, leaf_word, leaf_payload}
 use Rattle.filter.specs.Held.{HeldBy}
-use Rattle.filter.specs.Summaries.{attribute_summary, action_option_summary}
+use Rattle.filter.specs.Summaries.{tally_of, attribute_summary, action_option_summary}
 use Rattle.filter.specs.Nests.{none, items_of, read_in_attribute}
 use Rattle.filter.proofs.Nested.{leaf-tally, leaf_bounds, nest-tally, nest-bad, nest_bounds}
 use Rattle.filter.proofs.attributes.AttributesForm.read.Goals as goal
+
+pub returns-in_err-leaf-clause-value : goal.returns-in_err-leaf-clause-value
+returns-in_err-leaf-clause-value g c =
+    let p = err_from_is_err_and c.from_residual.result c.from_residual.ensures.1 in
+    ap answered p.1 ∙ ap (λ (h : Fault). Err (numbers h)) p.2 ∙ ap tally_of (c.in_err-leaf.ensures.reads (g.B.Book.meaning c.args.self.now.book.now) c.args.self.now.kind.now)
 
 pub leaf-requires : goal.leaf-requires
 leaf-requires g c =
@@ -24,25 +29,25 @@ read_inside-requires g c =
     let held = subst (λ (i : Content). HeldBy c.args.nla.now (content_meant i)) c.in-Nest.is c.in_ok-leaf.ensures.held in
     omega (arith, held.0, ap length held.1, c.requires)
 
-pub returns-in_err-row : goal.returns-in_err-row
-returns-in_err-row g c =
+pub returns-in_err-row-in-Nest : goal.returns-in_err-row-in-Nest
+returns-in_err-row-in-Nest g c =
     let m = g.B.Book.meaning c.args.self.now.book.now in
     let k = c.args.self.now.kind.now in
     let nest = c.in-Nest.nest in
     let reads = ap (λ (i : Content). read_in_attribute m k (content_meant i)) (sym c.in-Nest.is) ∙ c.in_ok-leaf.ensures.reads m k in
-    let f = c.in_err-row.field-0.0 in
-    let p = err_from_is_err_and c.from_residual-in_err-row.result c.from_residual-in_err-row.ensures.1 in
-    let row = sym c.read_inside.ensures.value ∙ ap answered c.in_err-row.was in
+    let f = c.in_err-row-in-Nest.field-0.0 in
+    let p = err_from_is_err_and c.from_residual-in_err-row-in-Nest.result c.from_residual-in_err-row-in-Nest.ensures.1 in
+    let row = sym c.read_inside.ensures.value ∙ ap answered c.in_err-row-in-Nest.was in
     record {
       value = ap answered p.1 ∙ ap (λ (h : Fault). Err (numbers h)) p.2
           ∙ nest-bad 4 (action_option_summary m k) 0x8002 none items_of _ (walk (nest.place + 4) nest.value.now) (numbers f) reads row;
-      bounds = IfOk-from_err c.from_residual-in_err-row.result _ c.from_residual-in_err-row.ensures.0;
+      bounds = IfOk-from_err c.from_residual-in_err-row-in-Nest.result _ c.from_residual-in_err-row-in-Nest.ensures.0;
     }
 
 pub nest-requires : goal.nest-requires
 nest-requires g c =
     let held = subst (λ (i : Content). HeldBy c.args.nla.now (content_meant i)) c.in-Nest.is c.in_ok-leaf.ensures.held in
-    omega (arith, c.in_ok-row.ensures.bounds.3, ap length held.1, c.requires)
+    omega (arith, c.in_ok-row-in-Nest.ensures.bounds.3, ap length held.1, c.requires)
 
 pub returns-in-Leaf : goal.returns-in-Leaf
 returns-in-Leaf g c =
@@ -55,16 +60,16 @@ returns-in-Leaf g c =
       bounds = leaf_bounds c.leaf.result c.value_len.result (length c.args.nla.now.value.now) c.leaf.ensures (omega (arith, held, c.value_len.ensures));
     }
 
-pub returns-in_ok-row : goal.returns-in_ok-row
-returns-in_ok-row g c =
+pub returns-in_ok-row-in-Nest : goal.returns-in_ok-row-in-Nest
+returns-in_ok-row-in-Nest g c =
     let held = subst (λ (i : Content). HeldBy c.args.nla.now (content_meant i)) c.in-Nest.is c.in_ok-leaf.ensures.held in
     let m = g.B.Book.meaning c.args.self.now.book.now in
     let k = c.args.self.now.kind.now in
     let nest = c.in-Nest.nest in
-    let row = c.in_ok-row.row in
+    let row = c.in_ok-row-in-Nest.row in
     let reads = ap (λ (i : Content). read_in_attribute m k (content_meant i)) (sym c.in-Nest.is) ∙ c.in_ok-leaf.ensures.reads m k in
-    let read = sym c.read_inside.ensures.value ∙ ap answered c.in_ok-row.was in
-    let bound = subst (λ (x : Bytes). Bounded row (length x)) held.1 c.in_ok-row.ensures.bounds in
+    let read = sym c.read_inside.ensures.value ∙ ap answered c.in_ok-row-in-Nest.was in
+    let bound = subst (λ (x : Bytes). Bounded row (length x)) held.1 c.in_ok-row-in-Nest.ensures.bounds in
     record {
       value = nest-tally 4 (action_option_summary m k) 0x8002 none items_of _ (walk (nest.place + 4) nest.value.now) row c.nest.result reads read c.nest.ensures;
       bounds = nest_bounds row c.nest.result 0 row.items (length c.args.nla.now.value.now) c.nest.ensures bound (omega arith) bound.0;

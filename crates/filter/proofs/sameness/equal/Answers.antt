@@ -1,6 +1,0 @@
-use Rattle.std.proofs.lemmas.Slice.Eq.{bytes_eq-Decides, slice_eq-Decides}
-use Rattle.std.proofs.lemmas.Bool.Decides.{same_from_decides}
-use Rattle.filter.proofs.sameness.equal.Goals as goal
-
-pub returns : goal.returns
-returns c = same_from_decides _ _ (slice_eq-Decides _ _ _ c.eq.ensures) (bytes_eq-Decides _ _)
