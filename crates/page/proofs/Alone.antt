@@ -2,7 +2,7 @@
 use Rattle.std.proofs.Common.{◌≡◌, ℕ, zero, suc, ◌+◌, ◌/◌, ◌%◌, ◌<◌, ◌≤◌, Bool, true, false, cond, eqb, ltb, List, [], ◌∷◌, length, get_or, Ok, Err, Result, sym, refl, ap, ◌∙◌, subst, arith}
 use Rattle.model.specs.Numbers.{Bytes}
 use Rattle.model.specs.Attributes.{type_of, Attribute}
-use Rattle.model.specs.Faults.{FaultNumbers, Read, ◌>>=◌}
+use Rattle.model.specs.Faults.{FaultNumbers, numbers, Read, ◌>>=◌}
 use Rattle.model.specs.Text.{is_text, stripped}
 use Rattle.model.specs.Walk.{Walked, done, bad, item, walk}
 use Rattle.model.specs.Book.{Answer, accept, refuse, Meaning}
@@ -130,6 +130,13 @@ module _ (m : Meaning) where
         options.option_reads m p r ≡ read_option m p w x → Ok tt ≡ only_fault (read_option m p w x)
     option_alone r q o h e f k = option_by r o h (sym e ∙ f) k
 
+    pub option_refused : (r : Result TcFilterU32Option DecodeError) (q : Result TcFilterU32Option Fault) (f : Fault) → q ≡ placed r p Layer.FilterOption → q ≡ Err f →
+        options.option_reads m p r ≡ read_option m p w x → Err (numbers f) ≡ only_fault (read_option m p w x)
+    option_refused (Ok a) q f h e k = cc
+    option_refused (Err d) q f h e k =
+        let same : f ≡ record { cause = d.cause; place = p; layer = Layer.FilterOption; need = d.need; number = 0 } = cc in
+        ap (λ (y : Fault). Err (numbers y)) same ∙ ap (only_fault {A = FilterOption}) k
+
     -- ── an action's attribute ──
     deep_attribute : (k : Bytes) (a : attributes.AttributeRead) → Deep 3 (attributes.read_on m k a)
     deep_attribute k (attributes.whole a) = tt
@@ -158,3 +165,10 @@ module _ (m : Meaning) where
     pub attribute_alone : (k : Bytes) (r : Result TcActionAttribute DecodeError) (q : Result TcActionAttribute Fault) (o : TcActionAttribute) → (type_of w ≡ 2 → ⊥) → q ≡ placed r p Layer.ActionAttribute → q ≡ Ok o →
         attributes.attribute_reads m k p r ≡ read_attribute m k p w x → Ok tt ≡ only_fault (read_attribute m k p w x)
     attribute_alone k r q o h e f g = attribute_by k r o h (sym e ∙ f) g
+
+    pub attribute_refused : (k : Bytes) (r : Result TcActionAttribute DecodeError) (q : Result TcActionAttribute Fault) (f : Fault) → q ≡ placed r p Layer.ActionAttribute → q ≡ Err f →
+        attributes.attribute_reads m k p r ≡ read_attribute m k p w x → Err (numbers f) ≡ only_fault (read_attribute m k p w x)
+    attribute_refused k (Ok a) q f h e g = cc
+    attribute_refused k (Err d) q f h e g =
+        let same : f ≡ record { cause = d.cause; place = p; layer = Layer.ActionAttribute; need = d.need; number = 0 } = cc in
+        ap (λ (y : Fault). Err (numbers y)) same ∙ ap (only_fault {A = ActionAttribute}) g
