@@ -11,12 +11,9 @@ use lines::answer_lines;
 use reading::read_files;
 use sameness::compare_files;
 use std::io::{BufWriter, Write};
+use std::process::ExitCode;
 use std::{env, io};
 use writing::write_file;
-
-/// The program ends with status 1: something was refused, and why was said.
-#[derive(Drop)]
-struct Refused;
 
 /// Does what a command says with its files. Answers whether all went well.
 fn obey<W: Write>(
@@ -60,13 +57,14 @@ fn run(rt: &HostRuntime) -> io::Result<bool> {
     Ok(done)
 }
 
-fn main(rt: HostRuntime) -> Result<(), Refused> {
+/// Ends with status 1 where something was refused; why was said.
+fn main(rt: HostRuntime) -> ExitCode {
     match run(&rt) {
-        Ok(true) => Ok(()),
-        Ok(false) => Err(Refused),
+        Ok(true) => ExitCode::SUCCESS,
+        Ok(false) => ExitCode::FAILURE,
         Err(error) => {
             let _ = eprintln!(rt; "rusvepa: {error}");
-            Err(Refused)
+            ExitCode::FAILURE
         }
     }
 }
