@@ -1,13 +1,11 @@
 -- What a step of each cursor gave, read on with a book. Assumes nothing.
-use Rattle.std.specs.Prelude.{◌≡◌, ℕ, ◌+◌, List, length, Some, None, Ok, Err, Option, Result}
+use Rattle.std.specs.Prelude.{ℕ, length, Some, None, Ok, Err, Option, Result}
 use Rattle.model.specs.Numbers.{Bytes}
-use Rattle.model.specs.Attributes.{Attribute}
 use Rattle.model.specs.Faults.{numbers, layer_number, Read, ◌>>=◌}
-use Rattle.model.specs.Walk.{Walked, walk}
+use Rattle.model.specs.Walk.{Walked}
 use Rattle.model.specs.Book.{Meaning, Judgement, written_as}
-use Rattle.model.specs.Reading.{Action, ActionAttribute, FilterOption, each, as_read, read_attribute, read_action, read_option}
+use Rattle.model.specs.Reading.{ActionAttribute, FilterOption, as_read}
 use Rattle.model.specs.declared.fault.Fault.{Fault}
-use Rattle.model.specs.declared.fault.Layer.{Layer}
 use Rattle.netlink.specs.declared.buffer.NlaBuffer.{NlaBuffer}
 use Rattle.netlink.specs.declared.walker.NlasIterator.{NlasIterator}
 use Rattle.netlink.specs.Walking.{ahead}

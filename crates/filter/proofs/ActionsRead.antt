@@ -1,8 +1,8 @@
 -- An action read in summary: its kind first, and then its attributes. Assumes nothing.
-use Rattle.std.proofs.Common.{◌≡◌, ℕ, ◌+◌, List, map, length, Ok, Err, Result, sym, refl, ap, ◌∙◌, arith}
+use Rattle.std.proofs.Common.{◌≡◌, ℕ, ◌+◌, List, map, Ok, Err, Result, sym, refl, ap, ◌∙◌, arith}
 use Rattle.model.specs.Numbers.{Bytes}
 use Rattle.model.specs.Attributes.{type_of, attribute}
-use Rattle.model.specs.Faults.{FaultNumbers, numbers, Read, ◌>>=◌}
+use Rattle.model.specs.Faults.{numbers, Read, ◌>>=◌}
 use Rattle.model.specs.Walk.{Walked, walk}
 use Rattle.model.specs.Book.{Meaning}
 use Rattle.model.specs.Counts.{options_in}
@@ -14,7 +14,7 @@ use Rattle.netlink.specs.declared.buffer.NlaBuffer.{NlaBuffer}
 use Rattle.tc_filter.specs.Kinds.{kind_found, ActionFound, action_found, action_heard, action_on}
 use Rattle.tc_filter.proofs.ActionsFound.{found_reads}
 use Rattle.tc_filter.specs.declared.action.TcAction.{TcAction}
-use Rattle.filter.specs.Summaries.{Summary, InFilter, of_attribute, of_action, attribute_summary, action_summary, tally_of}
+use Rattle.filter.specs.Summaries.{InFilter, of_attribute, of_action, attribute_summary, action_summary, tally_of}
 use Rattle.filter.specs.Nests.{none, options_of, around}
 use Rattle.filter.proofs.Contents.{row_of, options_are, around-read}
 

@@ -1,5 +1,5 @@
 -- Two filters that are written out are written alike exactly when their readings are equal. Assumes nothing.
-use Rattle.std.proofs.Common.{◌≡◌, ℕ, ◌-◌, Bool, true, ◌++◌, length, take, drop, Ok, Err, Decides, sym, refl, ap, ◌∙◌, arith}
+use Rattle.std.proofs.Common.{◌≡◌, ℕ, ◌-◌, Bool, length, take, drop, Ok, Err, Decides, sym, ap, ◌∙◌, arith}
 use Rattle.std.specs.Str.{bytes_eq}
 use Rattle.std.proofs.lemmas.Slice.Eq.{bytes_eq-Decides}
 use Rattle.std.proofs.lemmas.List.{take_at}
@@ -10,7 +10,7 @@ use Rattle.model.specs.Reading.{read_filter}
 use Rattle.model.specs.Writing.{write_out, written_over, output_after}
 use Rattle.model.proofs.Each.{ok_same, chain}
 use Rattle.model.proofs.RoundTrip.{canonical}
-use Rattle.filter.specs.WriteOut.{length_out, Comparison, alike, first_not, with_first, with_second, compared, behind_first, second_after}
+use Rattle.filter.specs.WriteOut.{length_out, alike, with_first, with_second, compared}
 
 module _ (m : Meaning) (bs : Bytes) where
   pub out_written : (free n : ℕ) → length_out m free bs ≡ Ok n → (x : Bytes) × ((write_out m free bs ≡ Ok x) × (length x ≡ n))

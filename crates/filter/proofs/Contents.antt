@@ -1,13 +1,13 @@
 -- What an option or attribute holds reads as the model reads it. Assumes nothing.
-use Rattle.std.proofs.Common.{◌≡◌, ℕ, ◌+◌, ◌*◌, List, [], ◌∷◌, ◌++◌, map, length, IfOk, Ok, Err, Result, sym, refl, ap, ◌∙◌, subst, zero-add, arith, length-append, Bor}
+use Rattle.std.proofs.Common.{◌≡◌, ℕ, ◌+◌, ◌*◌, List, [], ◌∷◌, ◌++◌, map, length, IfOk, Ok, Err, Result, sym, refl, ap, ◌∙◌, subst, arith, length-append, Bor}
 use Rattle.model.specs.Numbers.{Bytes, le_bytes}
 use Rattle.model.specs.Attributes.{Attribute, attribute, encode, encode_all}
-use Rattle.model.specs.Faults.{FaultNumbers, numbers, Read, ◌>>=◌}
+use Rattle.model.specs.Faults.{numbers, Read, ◌>>=◌}
 use Rattle.model.specs.Walk.{Walked, done, bad, item, walk}
 use Rattle.model.specs.Book.{Meaning}
 use Rattle.model.specs.Counts.{sum_of, options_in}
 use Rattle.model.specs.Reading.{ActionAttribute, options, Action, FilterOption, actions, each, as_read, read_attribute, read_action, read_option}
-use Rattle.model.specs.Writing.{write_attribute, write_action, write_option}
+use Rattle.model.specs.Writing.{write_action}
 use Rattle.model.specs.declared.fault.Fault.{Fault}
 use Rattle.model.specs.declared.fault.Layer.{Layer}
 use Rattle.payload.specs.Errors.{placed}
@@ -22,11 +22,10 @@ use Rattle.tc_filter.specs.declared.action_attribute.TcActionAttribute.TheVarian
 use Rattle.tc_filter.specs.declared.cls_u32.TcFilterU32Option.{TcFilterU32Option}
 use Rattle.tc_filter.specs.declared.cls_u32.TcFilterU32Option.TheVariants as option
 use Rattle.filter.specs.declared.tally.Tally.{Tally}
-use Rattle.filter.specs.Tallies.{nothing, joined}
-use Rattle.filter.specs.Summaries.{Summary, Reader, one, total, of_attribute, of_action, of_option, of_action_option, action_option_summary, attribute_summary, action_summary, option_summary}
-use Rattle.tc_filter.specs.Leaves.{Inside, lone, row_at, attribute_content, option_content}
+use Rattle.filter.specs.Summaries.{Summary, total, of_attribute, of_action, of_option, of_action_option, attribute_summary, option_summary}
+use Rattle.tc_filter.specs.Leaves.{lone, attribute_content, option_content}
 use Rattle.filter.specs.Held.{HeldBy}
-use Rattle.filter.specs.Nests.{none, items_of, options_of, written_row, around, read_inside, read_in_attribute, read_in_option}
+use Rattle.filter.specs.Nests.{none, items_of, options_of, written_row, around, read_in_attribute, read_in_option}
 
 -- reading in summary is reading, and then the summary of each
 pub each_mapped : {A : Type 0} (layer : ℕ) (f : ℕ → ℕ → Bytes → Read A) (s : A → Summary) (w : Walked) →

@@ -1,5 +1,5 @@
 -- A whole filter in numbers, and one action by itself. Assumes nothing.
-use Rattle.std.proofs.Common.{◌≡◌, ℕ, ◌+◌, ◌-◌, ◌≤◌, Bool, true, false, cond, ltb, List, [], ◌∷◌, map, length, drop, Ok, Err, sym, refl, ap, ◌∙◌, arith}
+use Rattle.std.proofs.Common.{◌≡◌, ℕ, ◌+◌, ◌≤◌, cond, ltb, List, [], ◌∷◌, map, length, drop, Ok, Err, sym, refl, ap, ◌∙◌, arith}
 use Rattle.std.proofs.lemmas.Bool.{cond-false, le-ltb}
 use Rattle.model.specs.Numbers.{Bytes}
 use Rattle.model.specs.Faults.{FaultNumbers, fault, Read, ◌>>=◌}
@@ -7,7 +7,7 @@ use Rattle.model.specs.Walk.{walk}
 use Rattle.model.specs.Book.{Meaning}
 use Rattle.model.specs.Counts.{sum_of, options_in, actions_of}
 use Rattle.model.specs.Page.{only_fault}
-use Rattle.model.specs.Reading.{Action, FilterOption, Reading, each, read_option, read_options, read_action}
+use Rattle.model.specs.Reading.{Action, Reading, read_option, read_options, read_action}
 use Rattle.model.specs.Writing.{write_option}
 use Rattle.filter.specs.declared.tally.Tally.{Tally}
 use Rattle.filter.specs.Summaries.{Summary, total, tally_of, tally_all, of_action, of_option, option_summary, action_summary}

@@ -1,5 +1,5 @@
 -- What a book's first call tells of an action option. Assumes nothing.
-use Rattle.std.proofs.Common.{◌≡◌, ℕ, ◌+◌, ◌-◌, ◌≤◌, eqb, ◌++◌, length, replicate, Ok, Err, sym, refl, ap, ◌∙◌, subst, arith}
+use Rattle.std.proofs.Common.{◌≡◌, ℕ, ◌+◌, ◌-◌, ◌≤◌, eqb, ◌++◌, length, replicate, Ok, sym, ap, ◌∙◌, subst, arith}
 use Rattle.model.specs.Numbers.{Bytes}
 use Rattle.model.specs.Attributes.{rounded, attribute, encode, head}
 use Rattle.model.specs.Faults.{Read, ◌>>=◌}

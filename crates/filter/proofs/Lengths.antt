@@ -1,7 +1,6 @@
 -- How many bytes written attributes have. Assumes nothing.
-use Rattle.std.proofs.Common.{◌≡◌, ℕ, ◌+◌, ◌-◌, List, [], ◌∷◌, ◌++◌, length, replicate, sym, refl, ap, ◌∙◌, arith, length-append}
+use Rattle.std.proofs.Common.{◌≡◌, ℕ, ◌+◌, List, [], ◌∷◌, ◌++◌, length, sym, refl, ap, ◌∙◌, arith, length-append}
 use lib.ListN.{length-replicate}
-use Rattle.model.specs.Numbers.{Bytes}
 use Rattle.model.specs.Attributes.{rounded, Attribute, encode, encode_all}
 
 pub length-encode : (a : Attribute) → length (encode a) ≡ 4 + rounded (length a.payload)

@@ -1,13 +1,12 @@
 -- The numbers of an attribute with a row inside, and of one without. Assumes nothing.
 use Rattle.std.proofs.Common.{◌≡◌, ℕ, ◌+◌, ◌*◌, ◌≤◌, List, [], ◌∷◌, length, Ok, Err, sym, refl, ap, ◌∙◌, arith, length-append}
-use Rattle.model.specs.Numbers.{Bytes}
 use Rattle.model.specs.Attributes.{rounded, Attribute, attribute, encode}
 use Rattle.model.specs.Faults.{FaultNumbers, Read, ◌>>=◌}
 use Rattle.model.specs.Walk.{Walked}
 use Rattle.model.specs.Reading.{each}
 use Rattle.filter.specs.declared.tally.Tally.{Tally}
 use Rattle.filter.specs.Tallies.{Bounded}
-use Rattle.filter.specs.Summaries.{Summary, Reader, one, total, tally_of, tally_all, of_action_option}
+use Rattle.filter.specs.Summaries.{Summary, Reader, total, tally_of, tally_all, of_action_option}
 use Rattle.filter.specs.Nests.{written_row, around}
 use Rattle.filter.specs.WriteOut.{payload_length}
 use Rattle.filter.proofs.Lengths.{length-encode, length-row}

@@ -1,8 +1,8 @@
 -- The numbers of a row of attributes, attribute by attribute. Assumes nothing.
-use Rattle.std.proofs.Common.{◌≡◌, ℕ, ◌+◌, ◌*◌, ◌≤◌, List, [], ◌∷◌, length, Some, Ok, Err, Result, sym, refl, ap, ◌∙◌, subst, add-zero, add_assoc, arith}
+use Rattle.std.proofs.Common.{◌≡◌, ℕ, List, ◌∷◌, Some, Ok, Err, Result, sym, refl, ap, ◌∙◌, subst, add-zero, add_assoc, arith}
 use Rattle.model.specs.Numbers.{Bytes}
 use Rattle.model.specs.Faults.{FaultNumbers, fault, numbers, layer_number, Read, ◌>>=◌}
-use Rattle.model.specs.Walk.{Walked, done, bad, item}
+use Rattle.model.specs.Walk.{Walked, done, item}
 use Rattle.model.specs.Reading.{each}
 use Rattle.model.specs.declared.fault.Fault.{Fault}
 use Rattle.model.specs.declared.fault.Layer.{Layer}

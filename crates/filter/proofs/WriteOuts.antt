@@ -1,5 +1,5 @@
 -- Writing out a filter that reads: its lengths, its room, and its bytes. Assumes nothing.
-use Rattle.std.proofs.Common.{◌≡◌, ℕ, ◌+◌, ◌-◌, ◌<◌, ◌≤◌, Bool, true, false, cond, ltb, List, [], ◌∷◌, ◌++◌, map, length, take, drop, Ok, Err, sym, refl, ap, ◌∙◌, subst, zero-add, arith}
+use Rattle.std.proofs.Common.{◌≡◌, ℕ, ◌<◌, ◌≤◌, cond, ltb, List, ◌∷◌, ◌++◌, map, length, take, drop, Ok, Err, sym, refl, ap, ◌∙◌, subst, zero-add, arith}
 use Rattle.std.specs.List.{AllByRecursion}
 use Rattle.std.proofs.lemmas.List.{take_at}
 use Rattle.std.proofs.lemmas.Bool.{cond-true, cond-false, lt-ltb, le-ltb, ltb-false}
@@ -17,7 +17,7 @@ use Rattle.filter.specs.Summaries.{Summary, Reader, of_option, option_summary}
 use Rattle.filter.specs.Nests.{written_row}
 use Rattle.filter.specs.Reads.{tally_of_reading, filter_tally}
 use Rattle.filter.specs.Writes.{Short, RoomForRow, row_form}
-use Rattle.filter.specs.WriteOut.{payload_length, lengths_checked, written_length, length_out}
+use Rattle.filter.specs.WriteOut.{payload_length, lengths_checked, written_length}
 use Rattle.filter.proofs.Contents.{each_mapped, row_of}
 
 -- ── the lengths, option by option ──

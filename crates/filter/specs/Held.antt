@@ -1,5 +1,5 @@
 -- What an option or attribute was found to hold, and that this is a part of it. Assumes nothing.
-use Rattle.std.specs.Prelude.{◌≡◌, ℕ, ◌+◌, ◌*◌, ◌≤◌, length, Ok, Err, Result}
+use Rattle.std.specs.Prelude.{◌≡◌, ◌+◌, ◌*◌, ◌≤◌, length, Ok, Err, Result}
 use Rattle.model.specs.Attributes.{rounded}
 use Rattle.model.specs.Faults.{numbers, Read}
 use Rattle.model.specs.declared.fault.Fault.{Fault}

@@ -1,7 +1,7 @@
 -- An attribute with a row of attributes inside, and how what an option or attribute holds is read with a book. Assumes nothing.
 use Rattle.std.specs.Prelude.{ℕ, ◌+◌, List, map, Ok}
 use Rattle.model.specs.Numbers.{Bytes}
-use Rattle.model.specs.Attributes.{Attribute, attribute, encode_all}
+use Rattle.model.specs.Attributes.{attribute, encode_all}
 use Rattle.model.specs.Faults.{Read, ◌>>=◌}
 use Rattle.model.specs.Walk.{walk}
 use Rattle.model.specs.Book.{Meaning}

@@ -1,5 +1,5 @@
 -- What the parts of a filter read as in summary, from what they hold; and what reading a whole filter answers. Assumes nothing.
-use Rattle.std.specs.Prelude.{ℕ, ◌+◌, cond, List, length, drop, Ok, Err, Result, nat_lt}
+use Rattle.std.specs.Prelude.{ℕ, ◌+◌, cond, length, drop, Ok, Err, Result, nat_lt}
 use Rattle.model.specs.Numbers.{Bytes}
 use Rattle.model.specs.Faults.{fault, numbers, Read, ◌>>=◌}
 use Rattle.model.specs.Reading.{Reading, read_action, read_filter}

@@ -1,5 +1,5 @@
 -- What reading an attribute gives: the attribute that is written for it, and how many actions and action options are inside. Assumes nothing.
-use Rattle.std.specs.Prelude.{ℕ, ◌+◌, ◌≤◌, List, [], ◌∷◌, map, length, Ok, Err}
+use Rattle.std.specs.Prelude.{ℕ, ◌+◌, ◌≤◌, List, [], ◌∷◌, length, Ok}
 use Rattle.model.specs.Numbers.{Bytes}
 use Rattle.model.specs.Attributes.{Attribute, encode}
 use Rattle.model.specs.Faults.{Read, ◌>>=◌}

@@ -1,5 +1,5 @@
 -- The numbers of a row of attributes, and how they add up. Assumes nothing.
-use Rattle.std.specs.Prelude.{◌≡◌, ℕ, ◌+◌, ◌*◌, ◌≤◌}
+use Rattle.std.specs.Prelude.{ℕ, ◌+◌, ◌*◌, ◌≤◌}
 use Rattle.filter.specs.declared.tally.Tally.{Tally}
 
 abbrev pub nothing : Tally

@@ -1,4 +1,6 @@
 // Whole filters: reading and writing out with a book.
+#![tactic(auto)]
+
 mod action_options;
 mod actions;
 mod attributes;

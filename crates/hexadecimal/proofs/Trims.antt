@@ -1,8 +1,8 @@
 -- Steps of the loops that take blanks away from a text's front and back. Assumes nothing.
-use Rattle.std.proofs.Common.{◌≡◌, ℕ, ◌+◌, ◌-◌, ◌<◌, ◌≤◌, Bool, true, false, cond, List, [], ◌∷◌, ◌++◌, reverse, length, get_or, take, drop, sym, refl, ap, ◌∙◌, arith}
+use Rattle.std.proofs.Common.{◌≡◌, ℕ, ◌+◌, ◌-◌, ◌<◌, ◌≤◌, Bool, true, false, cond, List, [], ◌∷◌, ◌++◌, reverse, length, get_or, take, drop, sym, ap, ◌∙◌, arith}
 use mathlib.Core.List.{reverse-append, reverse-reverse}
 use Rattle.std.proofs.lemmas.List.{take_rest, take_more, take_all}
-use Rattle.hexadecimal.specs.PlainText.{blank, from_start, until_end}
+use Rattle.hexadecimal.specs.PlainText.{blank, from_start}
 
 pub front_step : (xs whole : List ℕ) → 1 ≤ length xs → true ≡ blank (get_or xs 0 0) → from_start xs ≡ whole →
     from_start (take (length xs - 1) (drop 1 xs)) ≡ whole

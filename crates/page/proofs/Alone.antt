@@ -1,14 +1,14 @@
 -- An attribute that reads by itself: no list of actions and no list of options, so no book is asked. Assumes nothing.
 use Rattle.std.proofs.Common.{◌≡◌, ℕ, zero, suc, ◌+◌, ◌/◌, ◌%◌, ◌<◌, ◌≤◌, Bool, true, false, cond, eqb, ltb, List, [], ◌∷◌, length, get_or, Ok, Err, Result, sym, refl, ap, ◌∙◌, subst, arith}
 use Rattle.model.specs.Numbers.{Bytes}
-use Rattle.model.specs.Attributes.{type_of, Attribute}
-use Rattle.model.specs.Faults.{FaultNumbers, numbers, Read, ◌>>=◌}
+use Rattle.model.specs.Attributes.{type_of}
+use Rattle.model.specs.Faults.{numbers, Read, ◌>>=◌}
 use Rattle.model.specs.Text.{is_text, stripped}
 use Rattle.model.specs.Walk.{Walked, done, bad, item, walk}
 use Rattle.model.specs.Book.{Answer, accept, refuse, Meaning}
 use Rattle.model.specs.Page.{only_fault}
 use Rattle.model.specs.Selector.{wanted}
-use Rattle.model.specs.Reading.{FilterOption, ActionAttribute, Action, each, u32, text, read_selector, as_read, AttributeForm, as-kind, as-options, as-default, as_u32, as_raw, attribute_forms, read_as, read_attribute, kinds, the_kind, OptionForm, option_forms, read_action, read_option_as, read_option}
+use Rattle.model.specs.Reading.{FilterOption, ActionAttribute, each, u32, text, read_selector, as_read, AttributeForm, as-kind, as-options, as-default, as_u32, as_raw, attribute_forms, read_as, read_attribute, kinds, the_kind, OptionForm, option_forms, read_action, read_option_as, read_option}
 use Rattle.model.specs.declared.fault.Fault.{Fault}
 use Rattle.model.specs.declared.fault.Layer.{Layer}
 use Rattle.payload.specs.Errors.{placed}

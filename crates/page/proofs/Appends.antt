@@ -1,8 +1,8 @@
 -- What the one writer leaves of a page's memory, from the used length on. Assumes nothing.
-use Rattle.std.proofs.Common.{◌≡◌, ℕ, ◌+◌, ◌-◌, ◌<◌, ◌≤◌, Bool, true, false, cond, ltb, List, [], ◌∷◌, ◌++◌, length, take, drop, Ok, Err, Result, sym, refl, ap, ◌∙◌, subst, arith}
+use Rattle.std.proofs.Common.{◌≡◌, ℕ, ◌+◌, ◌-◌, ◌<◌, ◌≤◌, Bool, true, false, cond, ltb, ◌++◌, length, take, drop, Ok, Err, Result, refl, ap, ◌∙◌, arith}
 use borrow.Rule.Slice.PartMut.{put_mid}
-use Rattle.std.proofs.lemmas.List.{append_assoc, append-nil, length-drop, take_all, drop-drop, drop_all, take-append-drop}
-use Rattle.std.proofs.lemmas.Bool.{ltb-false, ltb-true, lt-ltb, le-ltb, cond-true, cond-false}
+use Rattle.std.proofs.lemmas.List.{append-nil, length-drop, take_all, drop-drop, drop_all, take-append-drop}
+use Rattle.std.proofs.lemmas.Bool.{ltb-false, ltb-true, cond-true, cond-false}
 use Rattle.model.specs.Numbers.{Bytes}
 use Rattle.model.specs.Attributes.{rounded, attribute, encode}
 use Rattle.model.specs.Page.{over}

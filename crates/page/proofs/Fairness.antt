@@ -1,5 +1,5 @@
 -- The turns that code can pass. Assumes nothing.
-use Rattle.std.proofs.Common.{◌≡◌, ℕ, Bool, true, false, cond, eqb, length, Ok, Err, sym, refl, ap, ◌∙◌, subst, arith, Bor}
+use Rattle.std.proofs.Common.{◌≡◌, ℕ, Bool, true, false, cond, eqb, length, Err, sym, refl, subst, arith, Bor}
 use Rattle.std.proofs.lemmas.Bool.{eqb-false}
 use Rattle.model.specs.Numbers.{Bytes}
 use Rattle.model.specs.Faults.{FaultNumbers}

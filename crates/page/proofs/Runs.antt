@@ -1,18 +1,17 @@
 -- Runs of the code's turns: one turn after the other, and what the laws of the page say of them. Assumes nothing.
-use Rattle.std.proofs.Common.{◌≡◌, ℕ, ◌+◌, ◌<◌, ◌≤◌, Bool, true, false, cond, eqb, List, [], ◌∷◌, map, length, get_or, drop, Ok, Err, sym, refl, ap, ◌∙◌, subst, ap₂, arith}
-use Rattle.std.proofs.lemmas.List.{at_drop_more, at_drop_all}
-use Rattle.std.proofs.lemmas.Bool.{ne_eqb, eqb-false}
+use Rattle.std.proofs.Common.{◌≡◌, ℕ, ◌+◌, ◌<◌, ◌≤◌, Bool, true, false, cond, List, [], ◌∷◌, map, length, get_or, drop, Err, sym, refl, ap, ◌∙◌, subst, ap₂}
+use Rattle.std.proofs.lemmas.List.{at_drop_more}
+use Rattle.std.proofs.lemmas.Bool.{ne_eqb}
 use Rattle.model.specs.Numbers.{Bytes, Octets}
 use Rattle.model.specs.Faults.{Read}
 use Rattle.model.specs.Book.{Meaning, BookLaws}
-use Rattle.model.specs.Page.{Page, Call, put, open_nest, close, strike, State, state, accepted, own_fault, verdict, page_after, memory_after, InRange}
+use Rattle.model.specs.Page.{Page, Call, put, open_nest, close, strike, State, state, accepted, own_fault, verdict, page_after, memory_after}
 use Rattle.model.specs.Runs.{Turn, with_own_memory, with_other_memory, Run, call_of, lent, answer, after, run, start}
 use Rattle.model.specs.Card.{Card, level0, feed, card_from, card_of}
 use Rattle.model.specs.Laws.{PageAgrees}
 use Rattle.model.proofs.Runs.{page_is_its_card}
 use Rattle.model.proofs.Orders.{order_is_free}
 use Rattle.page.specs.declared.turn.Turn as code-turns
-use Rattle.page.specs.Calls.{meant}
 use Rattle.page.specs.Steps.{Outcome, outcome, turned}
 use Rattle.page.specs.Turns.{turn_meant, turns_meant, Fair, AllFair, Reorders}
 

@@ -4,7 +4,7 @@ use Rattle.model.specs.Numbers.{Bytes, Octets}
 use Rattle.model.specs.Book.{Meaning, BookLaws}
 use Rattle.model.specs.Reading.{Reading, read_filter}
 use Rattle.model.specs.Writing.{written}
-use Rattle.model.specs.Page.{Page, State, state, level}
+use Rattle.model.specs.Page.{State, level}
 use Rattle.model.specs.Runs.{Turn, Run, run, page_bytes}
 
 -- a page whose bytes are the written form, with no nest open

@@ -4,7 +4,7 @@ use Rattle.model.specs.Numbers.{Bytes, le_bytes}
 use Rattle.model.specs.Faults.{Read}
 use Rattle.model.specs.Attributes.{rounded, head}
 use Rattle.model.specs.Book.{Meaning}
-use Rattle.model.specs.Page.{Page, Call, put, State, state, own_fault, over, page_after, memory_after}
+use Rattle.model.specs.Page.{Call, put, State, state, own_fault, over, page_after, memory_after}
 use Rattle.model.specs.Runs.{Turn, with_own_memory, answer, after}
 
 pub record Outcome : Type 0 where

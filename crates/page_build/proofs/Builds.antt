@@ -1,15 +1,14 @@
 -- A filter that was written out, and its written form walked over and put on a page. Assumes nothing.
-use Rattle.std.proofs.Common.{◌≡◌, ℕ, ◌<◌, ◌≤◌, Bool, true, false, cond, ltb, List, [], ◌∷◌, ◌++◌, length, take, drop, Ok, Err, sym, refl, ap, ◌∙◌, subst, arith}
+use Rattle.std.proofs.Common.{◌≡◌, ℕ, ◌<◌, ◌≤◌, Bool, true, false, cond, ltb, [], length, take, drop, Ok, Err, sym, refl, ap, ◌∙◌, subst, arith}
 use Rattle.std.proofs.lemmas.List.{take_at}
 use Rattle.std.proofs.lemmas.Bool.{le-ltb, lt-ltb, ltb-false, cond-true, cond-false}
 use Rattle.model.specs.Numbers.{Bytes, Octets}
 use Rattle.model.specs.Faults.{FaultNumbers, fault, Read, ◌>>=◌}
 use Rattle.model.specs.Book.{Meaning, BookLaws}
 use Rattle.model.specs.Walk.{walk}
-use Rattle.model.specs.Reading.{Reading, read_filter}
 use Rattle.model.specs.Writing.{written, write_out, written_over, output_after}
 use Rattle.model.specs.Page.{Page, State, state, only_fault, new_page}
-use Rattle.model.specs.Runs.{Turn, run, start}
+use Rattle.model.specs.Runs.{run, start}
 use Rattle.model.specs.Building.{reading_turns}
 use Rattle.model.proofs.Pages.{reading_built}
 use Rattle.model.proofs.WriteRefusals.{writing_out_answers_the_first_cause}

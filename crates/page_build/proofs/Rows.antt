@@ -1,5 +1,5 @@
 -- One row of turns after another. Assumes nothing.
-use Rattle.std.proofs.Common.{◌≡◌, ℕ, List, [], ◌∷◌, ◌++◌, sym, refl, ap, ◌∙◌, subst}
+use Rattle.std.proofs.Common.{◌≡◌, ℕ, List, [], ◌∷◌, ◌++◌, sym, refl, ap, ◌∙◌}
 use Rattle.model.specs.Numbers.{Bytes}
 use Rattle.model.specs.Book.{Meaning}
 use Rattle.model.specs.Faults.{Read}

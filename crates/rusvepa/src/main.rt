@@ -1,4 +1,6 @@
 // The tool: shows how filters are read, how they are written, and whether two are one entry.
+#![tactic(auto)]
+
 mod files;
 mod lines;
 mod reading;

@@ -1,4 +1,6 @@
 // What stands in a filter as text for people: bytes, kind texts, addresses, records, and attributes that are kept as they stand.
+#![tactic(auto)]
+
 pub mod address;
 pub mod attribute;
 pub mod bytes;

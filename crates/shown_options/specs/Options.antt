@@ -1,6 +1,6 @@
 -- What an option of an action is shown as: by the action's kind it is one of a mirror action, an address translation or a tunnel key
 -- action, as these are read; under every other kind it is kept as it stands. Assumes nothing.
-use Rattle.std.specs.Prelude.{ℕ, cond, Ok, Err, codes, Result}
+use Rattle.std.specs.Prelude.{cond, Ok, Err, codes, Result}
 use Rattle.std.specs.Str.{bytes_eq}
 use Rattle.model.specs.Numbers.{Bytes}
 use Rattle.payload.specs.Errors.{Lack}

@@ -1,4 +1,6 @@
 // Reads a sample mirror entry in its two spellings, writes both out, and shows that they are one.
+#![tactic(auto)]
+
 mod canonical;
 mod sample;
 

@@ -5,7 +5,7 @@ use Rattle.model.specs.Attributes.{type_of}
 use Rattle.model.specs.Faults.{Read, ◌>>=◌}
 use Rattle.model.specs.Walk.{walk}
 use Rattle.model.specs.Book.{Meaning}
-use Rattle.model.specs.Reading.{Action, each, kinds, the_kind, read_attribute, read_action}
+use Rattle.model.specs.Reading.{kinds, the_kind, read_action}
 use Rattle.model.specs.declared.fault.Fault.{Fault}
 use Rattle.netlink.specs.declared.buffer.NlaBuffer.{NlaBuffer}
 use Rattle.tc_filter.specs.Kinds.{place_inside, ActionFound, action_heard, action_found, action_on, action_reads, InMemory}

@@ -1,9 +1,9 @@
 -- A filter's option and an action's attribute, by their types, read as the model reads them. Assumes nothing.
-use Rattle.std.proofs.Common.{◌≡◌, ℕ, zero, suc, ◌/◌, ◌%◌, ◌<◌, ◌≤◌, false, eqb, get_or, Result, refl, ap, ◌∙◌, arith}
+use Rattle.std.proofs.Common.{◌≡◌, ℕ, zero, suc, ◌/◌, ◌%◌, ◌<◌, false, eqb, get_or, Result, refl, ap, ◌∙◌, arith}
 use Rattle.std.proofs.lemmas.Bool.{ne_eqb}
 use Rattle.model.specs.Numbers.{Bytes}
 use Rattle.model.specs.Attributes.{type_of}
-use Rattle.model.specs.Faults.{Read, ◌>>=◌}
+use Rattle.model.specs.Faults.{◌>>=◌}
 use Rattle.model.specs.Book.{Meaning}
 use Rattle.model.specs.Reading.{FilterOption, hash, link, divisor, class_id, selector, flags, ActionAttribute, kind, index, in_hw_count, option_forms, OptionForm, read_option_as, read_option, attribute_forms, AttributeForm, as-default, read_as, read_attribute}
 use Rattle.payload.specs.Errors.{Lack}

@@ -1,5 +1,5 @@
 -- A kind text is no longer than its payload. Assumes nothing.
-use Rattle.std.proofs.Common.{◌≡◌, ℕ, ◌≤◌, Bool, true, false, cond, eqb, List, [], ◌∷◌, length, Ok, Err, Result, sym, refl, ap, ◌∙◌, arith, Bor}
+use Rattle.std.proofs.Common.{◌≡◌, ℕ, ◌≤◌, Bool, true, false, cond, eqb, [], ◌∷◌, length, Ok, Err, Result, ap, arith, Bor}
 use Rattle.model.specs.Numbers.{Bytes}
 use Rattle.model.specs.Text.{is_text, stripped}
 use Rattle.payload.specs.Errors.{Lack, lack}

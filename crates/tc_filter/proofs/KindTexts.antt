@@ -6,7 +6,7 @@ use Rattle.model.specs.Attributes.{type_of}
 use Rattle.model.specs.Faults.{FaultNumbers, fault, needing, numbers, cause_number, Read, ◌>>=◌}
 use Rattle.model.specs.Text.{is_text, stripped}
 use Rattle.model.specs.Walk.{Walked, item}
-use Rattle.model.specs.Reading.{kinds, the_kind, text}
+use Rattle.model.specs.Reading.{kinds, text}
 use Rattle.model.specs.declared.fault.Fault.{Fault}
 use Rattle.model.specs.declared.fault.Layer.TheVariants.{ActionAttribute}
 use Rattle.payload.specs.Errors.{Lack, lack, placed}

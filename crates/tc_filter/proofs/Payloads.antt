@@ -1,5 +1,5 @@
 -- What a payload reads as, at its place, is what the model reads. Assumes nothing.
-use Rattle.std.proofs.Common.{◌≡◌, ℕ, ◌≤◌, Bool, true, false, cond, eqb, ltb, length, take, Ok, Err, refl, ap, arith, eqb-true}
+use Rattle.std.proofs.Common.{◌≡◌, ℕ, Bool, true, false, cond, eqb, ltb, length, Ok, Err, refl, ap, arith, eqb-true}
 use Rattle.std.proofs.lemmas.List.{take_all}
 use Rattle.model.specs.Numbers.{Bytes, number, le}
 use Rattle.model.specs.Faults.{fault, needing, Read, ◌>>=◌}

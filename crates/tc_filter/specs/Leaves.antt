@@ -1,10 +1,7 @@
 -- What is written of an option or attribute, or the part of the filter that is still to be read and written with a book. Assumes nothing.
-use Rattle.std.specs.Prelude.{◌≡◌, ℕ, ◌+◌, ◌*◌, ◌≤◌, [], ◌∷◌, ◌++◌, length, Ok, Err, Result}
+use Rattle.std.specs.Prelude.{ℕ, ◌+◌, ◌*◌, [], ◌∷◌, ◌++◌}
 use Rattle.model.specs.Numbers.{Bytes, le_bytes}
-use Rattle.model.specs.Attributes.{rounded, Attribute, attribute}
-use Rattle.model.specs.Faults.{numbers, Read}
-use Rattle.model.specs.declared.fault.Fault.{Fault}
-use Rattle.netlink.specs.declared.buffer.NlaBuffer.{NlaBuffer}
+use Rattle.model.specs.Attributes.{Attribute, attribute}
 use Rattle.tc_records.specs.Selectors.{selector_form}
 use Rattle.tc_filter.specs.declared.cls_u32.TcFilterU32Option.{TcFilterU32Option}
 use Rattle.tc_filter.specs.declared.cls_u32.TcFilterU32Option.TheVariants as option

@@ -1,4 +1,6 @@
 // The reading of each line of the standard input, which is a filter in hexadecimal: a tree, or why there is none.
+#![tactic(auto)]
+
 use hexadecimal::decoding::decode;
 use hexadecimal::plain_text::trimmed;
 use std::io;

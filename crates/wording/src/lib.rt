@@ -1,4 +1,6 @@
 // Refusals in words and in numbers.
+#![tactic(auto)]
+
 pub mod fault;
 #[cfg(test)]
 mod tests;

@@ -19,4 +19,4 @@ heard_at m k p (Err e) q h = ap (attribute_heard m k) h
 pub returns : goal.returns
 returns c =
     λ m k. heard_at m k c.in_ok-nla.nla.place c.parse.result c.context.result c.context.ensures
-        ∙ c.parse.ensures.reads m k ∙ sym (ap (found_reads (read_attribute m k)) c.in_ok-nla.was)
+    ∙ c.parse.ensures.reads m k ∙ sym (ap (found_reads (read_attribute m k)) c.in_ok-nla.was)

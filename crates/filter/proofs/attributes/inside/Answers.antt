@@ -26,4 +26,4 @@ returns-in_err-attribute-clause-reads c =
     let b = c.args.nla.now in
     let p = err_from_is_err_and c.from_residual.result c.from_residual.ensures.1 in
     ap (λ (q : Result Content Fault). attribute_inside m k (content_heard q)) (p.1 ∙ ap (λ (f : Fault). Err f) p.2)
-        ∙ attribute-refused m k b.place b.word b.value.now c.parse.result c.context.result (c.parse.ensures.reads m k) c.context.ensures c.in_err-attribute.field-0.0 c.in_err-attribute.was
+    ∙ attribute-refused m k b.place b.word b.value.now c.parse.result c.context.result (c.parse.ensures.reads m k) c.context.ensures c.in_err-attribute.field-0.0 c.in_err-attribute.was

@@ -1,8 +1,7 @@
-use Rattle.std.proofs.Common.{◌≡◌, ℕ, ◌+◌, ◌-◌, ◌≤◌, length, take, drop, Ok, sym, ap, ◌∙◌, arith, length-drop}
+use Rattle.std.proofs.Common.{◌≡◌, ℕ, ◌+◌, ◌-◌, ◌≤◌, length, take, drop, ap, ◌∙◌, arith, length-drop}
 use Rattle.std.proofs.lemmas.List.{take_rest}
 use Rattle.model.specs.Numbers.{Bytes}
 use Rattle.model.specs.Attributes.{attribute, encode}
-use Rattle.netlink.specs.Emission.{by_number}
 use Rattle.filter.proofs.Emitted.{emits, buffer_is, emitted_at}
 use Rattle.filter.proofs.emission.emit_at.Goals as goal
 

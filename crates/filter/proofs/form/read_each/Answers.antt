@@ -1,10 +1,9 @@
-use Rattle.std.proofs.Common.{◌≡◌, ◌+◌, ◌*◌, length, Ok, Err, sym, ap, ◌∙◌, arith}
+use Rattle.std.proofs.Common.{◌+◌, ◌*◌, length, Err, sym, ap, ◌∙◌, arith}
 use Rattle.std.proofs.lemmas.Result.{err_from_is_err_and, IfOk-from_err}
-use Rattle.model.specs.Faults.{Read, numbers, answered, layer_number}
+use Rattle.model.specs.Faults.{numbers, answered, layer_number}
 use Rattle.model.specs.declared.fault.Fault.{Fault}
 use Rattle.netlink.specs.Walking.{ahead}
 use Rattle.filter.specs.declared.tally.Tally.{Tally}
-use Rattle.filter.specs.Tallies.{joined}
 use Rattle.filter.specs.Summaries.{tally_behind}
 use Rattle.filter.proofs.Rows.{found-one, broke, tally_broken, tally-more, tally-bad, tally_done}
 use Rattle.filter.proofs.Shrinks.{shrinks}

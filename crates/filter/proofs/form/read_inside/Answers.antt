@@ -1,4 +1,4 @@
-use Rattle.std.proofs.Common.{◌≡◌, length, IfOk, sym, ap, ◌∙◌, subst, arith}
+use Rattle.std.proofs.Common.{length, IfOk, ap, ◌∙◌, subst, arith}
 use Rattle.model.specs.Faults.{layer_number}
 use Rattle.model.specs.Numbers.{Bytes}
 use Rattle.model.specs.declared.fault.Layer.{Layer}

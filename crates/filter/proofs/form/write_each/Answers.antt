@@ -1,4 +1,4 @@
-use Rattle.std.proofs.Common.{◌≡◌, ℕ, ◌+◌, length, Ok, Err, Result, sym, refl, ap, ◌∙◌, subst, arith}
+use Rattle.std.proofs.Common.{◌≡◌, ℕ, ◌+◌, length, Ok, Result, sym, ap, ◌∙◌, subst, arith}
 use Rattle.model.specs.Numbers.{Bytes}
 use Rattle.model.specs.Faults.{layer_number}
 use Rattle.model.specs.Page.{over}

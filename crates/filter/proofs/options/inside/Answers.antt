@@ -26,4 +26,4 @@ returns-in_err-option-clause-reads c =
     let b = c.args.nla.now in
     let p = err_from_is_err_and c.from_residual.result c.from_residual.ensures.1 in
     ap (λ (q : Result Content Fault). option_inside m (content_heard q)) (p.1 ∙ ap (λ (f : Fault). Err f) p.2)
-        ∙ option-refused m b c.parse.result c.context.result (c.parse.ensures.reads m) c.context.ensures c.in_err-option.field-0.0 c.in_err-option.was
+    ∙ option-refused m b c.parse.result c.context.result (c.parse.ensures.reads m) c.context.ensures c.in_err-option.field-0.0 c.in_err-option.was

@@ -1,4 +1,4 @@
-use Rattle.std.proofs.Common.{◌≡◌, ap, ◌∙◌, arith}
+use Rattle.std.proofs.Common.{ap, ◌∙◌, arith}
 use Rattle.model.specs.Faults.{layer_number}
 use Rattle.model.specs.declared.fault.Layer.{Layer}
 use Rattle.netlink.specs.Walking.{ahead}

@@ -1,7 +1,7 @@
 use Rattle.std.proofs.Common.{◌≡◌, Bool, length, sym, ap, ◌∙◌}
 use Rattle.std.specs.Str.{bytes_eq}
 use Rattle.model.specs.Numbers.{Bytes}
-use Rattle.model.specs.Faults.{Read, answered, numbers}
+use Rattle.model.specs.Faults.{Read, numbers}
 use Rattle.model.specs.Writing.{write_out, output_after}
 use Rattle.tc.proofs.Told.{octets}
 use Rattle.filter.specs.WriteOut.{with_first, behind_first, alike}

@@ -1,15 +1,15 @@
-use Rattle.std.proofs.Common.{◌≡◌, ℕ, ◌+◌, ◌≤◌, List, length, take, IfOk, Ok, Result, sym, ap, ◌∙◌, subst, zero-add, arith}
+use Rattle.std.proofs.Common.{◌≡◌, ℕ, ◌+◌, ◌≤◌, length, take, IfOk, Ok, Result, sym, ap, ◌∙◌, subst, zero-add, arith}
 use Rattle.model.specs.Numbers.{Bytes}
 use Rattle.model.specs.Faults.{Read, ◌>>=◌, answered, layer_number}
 use Rattle.model.specs.Page.{over}
 use Rattle.model.specs.Reading.{each, read_filter}
-use Rattle.model.specs.Walk.{Walked, walk}
+use Rattle.model.specs.Walk.{Walked}
 use Rattle.model.specs.Writing.{written, output_after}
 use Rattle.model.specs.declared.fault.Fault.{Fault}
 use Rattle.model.specs.declared.fault.Layer.{Layer}
 use Rattle.netlink.specs.Walking.{ahead}
 use Rattle.tc.proofs.Told.{octets}
-use Rattle.filter.specs.Summaries.{Summary, option_summary}
+use Rattle.filter.specs.Summaries.{option_summary}
 use Rattle.filter.specs.Writes.{RoomForRow, row_form}
 use Rattle.filter.proofs.WriteOuts.{reads_short, written_of, room, row_room, row_bytes, output_is, reads_again}
 use Rattle.filter.proofs.writing.write_out.Goals as goal

@@ -1,9 +1,9 @@
-use Rattle.std.proofs.Common.{◌≡◌, ℕ, ◌+◌, ◌≤◌, Bool, cond, List, length, get_or, drop, Ok, Err, sym, refl, ap, ◌∙◌, subst, arith, w8, Fits, rules}
+use Rattle.std.proofs.Common.{◌≡◌, ℕ, ◌≤◌, Bool, cond, List, length, get_or, Ok, Err, sym, ap, ◌∙◌, subst, arith, w8, Fits, rules}
 use Rattle.std.proofs.lemmas.List.{at_drop_all}
 use Rattle.std.proofs.lemmas.Bool.{le-ltb}
 use Rattle.tc.proofs.Told.{octets}
 use Rattle.model.specs.Faults.{answered, fault}
-use Rattle.model.specs.Page.{State, state}
+use Rattle.model.specs.Page.{state}
 use Rattle.model.specs.Runs.{run, start}
 use Rattle.page.specs.declared.turn.Turn.{Turn}
 use Rattle.page.specs.Pages.{as_page}

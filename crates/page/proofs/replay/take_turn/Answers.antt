@@ -1,5 +1,4 @@
 use Rattle.std.proofs.Common.{rules}
-use Rattle.model.specs.Faults.{numbers}
 use Rattle.page.proofs.Fairness.{own_fair, other_fair, refused_fair}
 use Rattle.page.proofs.replay.take_turn.Goals as goal
 

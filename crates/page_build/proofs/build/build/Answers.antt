@@ -1,4 +1,4 @@
-use Rattle.std.proofs.Common.{◌≡◌, ℕ, ◌≤◌, length, take, sym, ap, ◌∙◌, arith}
+use Rattle.std.proofs.Common.{◌≡◌, length, take, ap, ◌∙◌}
 use Rattle.model.specs.Faults.{Read}
 use Rattle.model.specs.Page.{Page, State, state, only_fault}
 use Rattle.model.specs.Runs.{run, start}

@@ -1,7 +1,6 @@
 use Rattle.std.proofs.Common.{◌≡◌, Err, sym, ap, ◌∙◌}
 use Rattle.std.proofs.lemmas.Result.{err_from_is_err_and}
-use Rattle.model.specs.Faults.{numbers, Read}
-use Rattle.model.specs.Numbers.{Bytes}
+use Rattle.model.specs.Faults.{numbers}
 use Rattle.model.specs.Reading.{kinds}
 use Rattle.model.specs.Attributes.{type_of}
 use Rattle.model.specs.declared.fault.Fault.{Fault}

@@ -1,4 +1,4 @@
-use Rattle.std.proofs.Common.{◌≡◌, sym, ap, ◌∙◌, arith}
+use Rattle.std.proofs.Common.{ap, arith}
 use Rattle.filter.specs.declared.tally.Tally.{Tally}
 use Rattle.filter.proofs.Judged.{judged_shorter, judged-tally}
 use Rattle.filter.proofs.action_options.ActionOptionsForm.read.Goals as goal

@@ -1,6 +1,4 @@
 use Rattle.std.proofs.Common.{◌≡◌, ℕ, ◌+◌, ◌-◌, length, replicate, Ok, Result, sym, refl, ap, ◌∙◌, arith}
-use lib.ListN.{length-replicate}
-use Rattle.model.specs.Numbers.{Bytes}
 use Rattle.model.specs.Attributes.{rounded, head}
 use Rattle.model.specs.Page.{over}
 use Rattle.model.specs.declared.fault.Fault.{Fault}

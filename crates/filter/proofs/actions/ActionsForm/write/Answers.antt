@@ -1,4 +1,4 @@
-use Rattle.std.proofs.Common.{◌≡◌, ℕ, ◌+◌, length, Ok, Result, sym, ap, ◌∙◌, subst, arith}
+use Rattle.std.proofs.Common.{ℕ, ◌+◌, length, Ok, Result, sym, ap, ◌∙◌, subst}
 use Rattle.model.specs.Numbers.{Bytes}
 use Rattle.model.specs.Attributes.{type_of}
 use Rattle.model.specs.Page.{over}

@@ -1,4 +1,4 @@
-use Rattle.std.proofs.Common.{◌≡◌, ℕ, ◌+◌, length, Ok, Result, sym, ap, ◌∙◌, subst, arith}
+use Rattle.std.proofs.Common.{ℕ, ◌+◌, length, Ok, Result, sym, ap, ◌∙◌, subst, arith}
 use Rattle.model.specs.Numbers.{Bytes}
 use Rattle.model.specs.Page.{over}
 use Rattle.model.specs.Reading.{each}
@@ -7,7 +7,7 @@ use Rattle.model.specs.declared.fault.Fault.{Fault}
 use Rattle.tc_filter.specs.declared.content.Content.{Content}
 use Rattle.tc_filter.specs.Leaves.{content_meant}
 use Rattle.filter.specs.Held.{HeldBy}
-use Rattle.filter.specs.Summaries.{option_summary, action_summary}
+use Rattle.filter.specs.Summaries.{action_summary}
 use Rattle.filter.specs.Nests.{items_of, options_of, read_in_option}
 use Rattle.filter.proofs.RowWrites.{room_around, form-around_it}
 use Rattle.filter.proofs.options.OptionsForm.write.Goals as goal

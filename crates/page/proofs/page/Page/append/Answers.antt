@@ -1,12 +1,11 @@
-use Rattle.std.proofs.Common.{◌≡◌, ℕ, ◌+◌, ◌-◌, ◌<◌, ◌≤◌, true, false, ltb, length, Ok, Err, sym, ap, ◌∙◌, arith}
+use Rattle.std.proofs.Common.{◌≡◌, ◌+◌, ◌-◌, ◌<◌, ◌≤◌, true, false, ltb, length, Ok, Err, sym, ◌∙◌, arith}
 use Rattle.std.proofs.lemmas.Bool.{lt-ltb, le-ltb, cond-true, cond-false}
-use Rattle.model.specs.Numbers.{Bytes}
-use Rattle.model.specs.Faults.{FaultNumbers, cause_number}
+use Rattle.model.specs.Faults.{cause_number}
 use Rattle.model.specs.Attributes.{rounded}
 use Rattle.model.specs.Page.{state}
 use Rattle.page.specs.Levels.{heads_of}
 use Rattle.page.specs.Pages.{as_page}
-use Rattle.page.specs.Steps.{Outcome, outcome}
+use Rattle.page.specs.Steps.{outcome}
 use Rattle.page.proofs.Appends.{appends, no_room}
 use Rattle.page.proofs.page.Page.append.Goals as goal
 

@@ -1,4 +1,3 @@
-use Rattle.std.proofs.Common.{rules}
 use Rattle.tc.proofs.Told.{octets}
 use Rattle.page.proofs.page.Page.put.Goals as goal
 

@@ -1,4 +1,4 @@
-use Rattle.std.proofs.Common.{◌≡◌, ℕ, ◌+◌, eqb, List, sym, ap, ◌∙◌, arith}
+use Rattle.std.proofs.Common.{◌≡◌, ◌+◌, List, sym, ap, ◌∙◌, arith}
 use Rattle.std.proofs.lemmas.Bool.{eq-eqb, cond-true}
 use Rattle.model.specs.Attributes.{type_of}
 use Rattle.model.specs.Faults.{answered}
@@ -6,7 +6,7 @@ use Rattle.model.specs.Page.{state}
 use Rattle.model.specs.Runs.{Turn, run}
 use Rattle.model.specs.Walk.{Walked, walk}
 use Rattle.page.specs.Pages.{as_page}
-use Rattle.page_build.specs.Fillings.{row_turns, nest_turns, action_turns_at}
+use Rattle.page_build.specs.Fillings.{row_turns, action_turns_at}
 use Rattle.page_build.proofs.Rows.{nest_filled}
 use Rattle.page_build.proofs.fillers.FilterOptionsFiller.fill.Goals as goal
 
