@@ -117,22 +117,22 @@ module _ (m : Meaning) (laws : BookLaws m) (k : Bytes) where
   cookie_steady : (x : Bytes) → Octets x → Steady m k (cookie x)
   cookie_steady x o = record { known = o; word16 = omega arith; again = λ p _. refl; heard = λ p r l q. q }
 
-  other_steady : (w t : ℕ) (x : Bytes) → Octets x → w < 65536 → type_of w ≡ t → get_or attribute_forms t AttributeForm.as-default ≡ AttributeForm.as-default → ¬ (t ≡ 1) → ¬ (t ≡ 2) → Steady m k (other w x)
+  other_steady : (w t : ℕ) (x : Bytes) → Octets x → w < 65536 → type_of w ≡ t → get_or attribute_forms t AttributeForm.as_default ≡ AttributeForm.as_default → ¬ (t ≡ 1) → ¬ (t ≡ 2) → Steady m k (other w x)
   other_steady w t x o hw e f not-one not-two = record {
     known = ((λ z. not-two (sym e ∙ z)), o);
     word16 = hw;
-    again = λ p _. ap (λ (n : ℕ). read_as m (get_or attribute_forms n AttributeForm.as-default) k p w x) e ∙ ap (λ (g : AttributeForm). read_as m g k p w x) f;
+    again = λ p _. ap (λ (n : ℕ). read_as m (get_or attribute_forms n AttributeForm.as_default) k p w x) e ∙ ap (λ (g : AttributeForm). read_as m g k p w x) f;
     heard = λ p r l q. rw (ne_eqb (type_of w) 1 (λ z. not-one (sym e ∙ z)), kinds) q;
   }
 
   module _ (p w : ℕ) (x : Bytes) (hw : w < 65536) (o : Octets x) (short : length x ≤ 65531) (a : ActionAttribute) where
-    steady_kind : read_as m AttributeForm.as-kind k p w x ≡ Ok a → Steady m k a
+    steady_kind : read_as m AttributeForm.as_kind k p w x ≡ Ok a → Steady m k a
     steady_kind q =
         let g = chain (text p 3 x) (λ t. Ok (kind t)) q in
         let h = met (is_text (stripped x)) (fault 9 p 3) (Ok (stripped x)) g.1.0 in
         subst (Steady m k) (ok_same g.1.1) (kind_steady g.0 (subst Octets (ok_same h.1) (octets_stripped x o)) (ap is_text (sym (ok_same h.1)) ∙ h.0))
 
-    steady_options : read_as m AttributeForm.as-options k p w x ≡ Ok a → Steady m k a
+    steady_options : read_as m AttributeForm.as_options k p w x ≡ Ok a → Steady m k a
     steady_options q =
         let g = chain (each 4 (λ q v y. as_read q (m k v y)) (walk (p + 4) x)) (λ l. Ok (options l)) q in
         subst (Steady m k) (ok_same g.1.1) (options_steady g.0
@@ -143,7 +143,7 @@ module _ (m : Meaning) (laws : BookLaws m) (k : Bytes) where
         let g = chain (u32 p 3 x) (λ n. Ok (f n)) q in
         subst (Steady m k) (ok_same g.1.1) (h g.0 (u32_is p 3 x g.0 o g.1.0))
 
-    by_type : (t : ℕ) → type_of w ≡ t → read_as m (get_or attribute_forms t AttributeForm.as-default) k p w x ≡ Ok a → Steady m k a
+    by_type : (t : ℕ) → type_of w ≡ t → read_as m (get_or attribute_forms t AttributeForm.as_default) k p w x ≡ Ok a → Steady m k a
     by_type zero e q = subst (Steady m k) (ok_same q) (other_steady w 0 x o hw e refl (λ z. omega arith) (λ z. omega arith))
     by_type (suc zero) e q = steady_kind q
     by_type (suc (suc zero)) e q = steady_options q

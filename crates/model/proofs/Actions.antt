@@ -20,7 +20,7 @@ own_kinds (a ∷ l) = own_kind a ++ own_kinds l
 
 -- an attribute of another type than 1 has no kind text
 module _ (m : Meaning) (k : Bytes) (p w : ℕ) (x : Bytes) (a : ActionAttribute) where
-  none-at : (t : ℕ) → ¬ (t ≡ 1) → read_as m (get_or attribute_forms t AttributeForm.as-default) k p w x ≡ Ok a → own_kind a ≡ []
+  none-at : (t : ℕ) → ¬ (t ≡ 1) → read_as m (get_or attribute_forms t AttributeForm.as_default) k p w x ≡ Ok a → own_kind a ≡ []
   none-at zero n q = ap own_kind (sym (ok_same q))
   none-at (suc zero) n q = absurd (n refl)
   none-at (suc (suc zero)) n q = let g = chain (each 4 (λ q v y. as_read q (m k v y)) (walk (p + 4) x)) (λ l. Ok (options l)) q in ap own_kind (sym (ok_same g.1.1))
@@ -39,7 +39,7 @@ module _ (m : Meaning) (k : Bytes) (p w : ℕ) (x : Bytes) (a : ActionAttribute)
       (l' : List Bytes) × ((kinds r ≡ Ok l') × (l ≡ own_kind a ++ l'))
   heard_of r l true e q h =
       let one : type_of w ≡ 1 = eqb-true (type_of w) 1 e in
-      let q' : read_as m AttributeForm.as-kind k p w x ≡ Ok a = subst (λ (n : ℕ). read_as m (get_or attribute_forms n AttributeForm.as-default) k p w x ≡ Ok a) one q in
+      let q' : read_as m AttributeForm.as_kind k p w x ≡ Ok a = subst (λ (n : ℕ). read_as m (get_or attribute_forms n AttributeForm.as_default) k p w x ≡ Ok a) one q in
       let g = chain (text p 3 x) (λ t. Ok (kind t)) q' in
       let h' : (text p 3 x >>= (λ t. kinds r >>= λ l. Ok (t ∷ l))) ≡ Ok l = rw (e, kinds) at h in
       let f = chain (text p 3 x) (λ t. kinds r >>= λ l. Ok (t ∷ l)) h' in

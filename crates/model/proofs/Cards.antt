@@ -117,7 +117,7 @@ module _ (m : Meaning) where
       every (i ∷ l) h = (action-item-read k i h.0, every l h.1)
 
   -- an attribute of another type than 2 has no options
-  no_options : (k : Bytes) (p w : ℕ) (x : Bytes) (a : ActionAttribute) (t : ℕ) → ¬ (t ≡ 2) → read_as m (get_or attribute_forms t AttributeForm.as-default) k p w x ≡ Ok a → options_in a ≡ 0
+  no_options : (k : Bytes) (p w : ℕ) (x : Bytes) (a : ActionAttribute) (t : ℕ) → ¬ (t ≡ 2) → read_as m (get_or attribute_forms t AttributeForm.as_default) k p w x ≡ Ok a → options_in a ≡ 0
   no_options k p w x a zero n q = ap options_in (sym (ok_same q))
   no_options k p w x a (suc zero) n q = let g = chain (text p 3 x) (λ t. Ok (kind t)) q in ap options_in (sym (ok_same g.1.1))
   no_options k p w x a (suc (suc zero)) n q = absurd (n refl)
@@ -132,7 +132,7 @@ module _ (m : Meaning) where
   no_options k p w x a (suc (suc (suc (suc (suc (suc (suc (suc (suc (suc (suc t))))))))))) n q = ap options_in (sym (ok_same q))
 
   -- and one of another type than 7 no actions
-  no_actions : (p w : ℕ) (x : Bytes) (o : FilterOption) (t : ℕ) → ¬ (t ≡ 7) → read_option_as m (get_or option_forms t OptionForm.as-default) p w x ≡ Ok o → actions_of o ≡ []
+  no_actions : (p w : ℕ) (x : Bytes) (o : FilterOption) (t : ℕ) → ¬ (t ≡ 7) → read_option_as m (get_or option_forms t OptionForm.as_default) p w x ≡ Ok o → actions_of o ≡ []
   no_actions p w x o zero n q = ap actions_of (sym (ok_same q))
   no_actions p w x o (suc zero) n q = let g = chain (u32 p 1 x) (λ n. Ok (class_id (n / 65536) (n % 65536))) q in ap actions_of (sym (ok_same g.1.1))
   no_actions p w x o (suc (suc zero)) n q = let g = chain (u32 p 1 x) (λ n. Ok (hash n)) q in ap actions_of (sym (ok_same g.1.1))

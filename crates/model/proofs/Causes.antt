@@ -139,10 +139,10 @@ module _ (m : Meaning) (cs : List ℕ) (has : (c : ℕ) → T (among c action_ca
   only_the_kind p (t ∷ u ∷ l) = has 11 tt
 
   only_as : (f : AttributeForm) (k : Bytes) (p w : ℕ) (x : Bytes) → Only cs (read_as m f k p w x)
-  only_as AttributeForm.as-kind k p w x = only_then cs (text p 3 x) _ (only_text p 3 x) (λ t. tt)
-  only_as AttributeForm.as-options k p w x =
+  only_as AttributeForm.as_kind k p w x = only_then cs (text p 3 x) _ (only_text p 3 x) (λ t. tt)
+  only_as AttributeForm.as_options k p w x =
       only_then cs (each 4 (λ q v y. as_read q (m k v y)) (walk (p + 4) x)) _ (only_each cs 4 (λ q v y. as_read q (m k v y)) (λ q v y. only_as_read q (m k v y)) (walk (p + 4) x) (walk_marked (length x) (p + 4) x)) (λ l. tt)
-  only_as AttributeForm.as-default k p w x = tt
+  only_as AttributeForm.as_default k p w x = tt
   only_as (AttributeForm.as_u32 f) k p w x = only_then cs (u32 p 3 x) _ (only_u32 p 3 x) (λ n. tt)
   only_as (AttributeForm.as_raw f) k p w x = tt
 
@@ -151,7 +151,7 @@ module _ (m : Meaning) (cs : List ℕ) (has : (c : ℕ) → T (among c action_ca
       let marked = walk_marked (length x) (p + 4) x in
       only_then cs (kinds (walk (p + 4) x)) _ (only_kinds (walk (p + 4) x) marked)
       (λ l. only_then cs (the_kind p l) _ (only_the_kind p l)
-      (λ k. only_then cs (each 3 (read_attribute m k) (walk (p + 4) x)) _ (only_each cs 3 (read_attribute m k) (λ q v y. only_as (get_or attribute_forms (type_of v) AttributeForm.as-default) k q v y) (walk (p + 4) x) marked) (λ l. tt)))
+      (λ k. only_then cs (each 3 (read_attribute m k) (walk (p + 4) x)) _ (only_each cs 3 (read_attribute m k) (λ q v y. only_as (get_or attribute_forms (type_of v) AttributeForm.as_default) k q v y) (walk (p + 4) x) marked) (λ l. tt)))
 
   -- a filter's options give also 13
   module _ (short : T (among 13 cs)) where
@@ -161,13 +161,13 @@ module _ (m : Meaning) (cs : List ℕ) (has : (c : ℕ) → T (among c action_ca
         (only_cond cs (ltb (length x) (wanted x)) (Err (needing 13 p 1 (wanted x))) (Ok (decode x)) short tt)
 
     only_option : (f : OptionForm) (p w : ℕ) (x : Bytes) → Only cs (read_option_as m f p w x)
-    only_option OptionForm.as-class-id p w x = only_then cs (u32 p 1 x) _ (only_u32 p 1 x) (λ n. tt)
+    only_option OptionForm.as_class_id p w x = only_then cs (u32 p 1 x) _ (only_u32 p 1 x) (λ n. tt)
     only_option OptionForm.as_selector p w x = only_then cs (read_selector p x) _ (only_selector p x) (λ s. tt)
-    only_option OptionForm.as-actions p w x =
+    only_option OptionForm.as_actions p w x =
         only_then cs (each 2 (read_action m) (walk (p + 4) x)) _ (only_each cs 2 (read_action m) only_action (walk (p + 4) x) (walk_marked (length x) (p + 4) x)) (λ l. tt)
-    only_option OptionForm.as-default p w x = tt
+    only_option OptionForm.as_default p w x = tt
     only_option (OptionForm.as_u32 f) p w x = only_then cs (u32 p 1 x) _ (only_u32 p 1 x) (λ n. tt)
     only_option (OptionForm.as_raw f) p w x = tt
 
     pub only_options : (bs : Bytes) → Only cs (read_options m bs)
-    only_options bs = only_each cs 1 (read_option m) (λ p w x. only_option (get_or option_forms (type_of w) OptionForm.as-default) p w x) (walk 0 bs) (walk_marked (length bs) 0 bs)
+    only_options bs = only_each cs 1 (read_option m) (λ p w x. only_option (get_or option_forms (type_of w) OptionForm.as_default) p w x) (walk 0 bs) (walk_marked (length bs) 0 bs)

@@ -5,7 +5,7 @@ use Rattle.std.proofs.lemmas.Bool.{cases_lt}
 use Rattle.std.proofs.lemmas.List.{get_or-map, get_or_past}
 use Rattle.std.proofs.lemmas.List.FromFn.{get_or-map-range_with_len}
 use Rattle.model.specs.Outcomes.{Outcome, unspec, ok, reclassify, shot, pipe, stolen, queued, repeat, redirect, trap, outcome, outcome_number}
-use Rattle.model.specs.Outcomes.{MirrorAction, egress-redir, egress-mirror, ingress-redir, ingress-mirror, mirror_action, mirror_action_number, NamesTellNumbers, OutcomeIsToldByTheHead}
+use Rattle.model.specs.Outcomes.{MirrorAction, egress_redir, egress_mirror, ingress_redir, ingress_mirror, mirror_action, mirror_action_number, NamesTellNumbers, OutcomeIsToldByTheHead}
 
 -- a name looked up in a list tells its number, where the i-th name of the list has the i-th number and the name for any other number tells that
 told : {X : Type 0} (f : X → ℤ) (g : ℕ → ℤ) (l : List X) (n : ℕ) (d : X) → map f l ≡ map g (range_with_len 0 (length l)) → f d ≡ g n → f (get_or l n d) ≡ g n
@@ -21,7 +21,7 @@ of_outcomes (pos n) = told outcome_number pos (ok ∷ reclassify ∷ shot ∷ pi
 of_mirror_actions : (z : ℤ) → mirror_action_number (mirror_action z) ≡ z
 of_mirror_actions (negsuc n) = refl
 of_mirror_actions (pos zero) = refl
-of_mirror_actions (pos (suc n)) = told mirror_action_number (λ i. pos (suc i)) (egress-redir ∷ egress-mirror ∷ ingress-redir ∷ ingress-mirror ∷ []) n (MirrorAction.other (pos (suc n))) refl refl
+of_mirror_actions (pos (suc n)) = told mirror_action_number (λ i. pos (suc i)) (egress_redir ∷ egress_mirror ∷ ingress_redir ∷ ingress_mirror ∷ []) n (MirrorAction.other (pos (suc n))) refl refl
 
 pub names_tell_numbers : NamesTellNumbers
 names_tell_numbers = record {

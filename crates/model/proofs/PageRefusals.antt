@@ -97,7 +97,7 @@ module _ (utf8 : GrammarIsUtf8) (m : Meaning) (p w : ℕ) (x : Bytes) (gs : List
       (of_others (λ h. omega arith) (of_others (λ h. omega arith)
       (of_this is (first_unless (ltb (length x) 16) (Decides-ltb (length x) 16) (needing 13 p 1 16) (drop 3 (alone_grounds 0 5 p x gs)) (check (not (ltb (length x) (wanted x))) (needing 13 p 1 (wanted x)) >>= λ _. v) (of_this is enough)))))
 
-  option_alone : (t : ℕ) → ¬ (t ≡ 7) → First (alone_grounds 0 t p x gs) (only_fault (read_option_as m (get_or option_forms t OptionForm.as-default) p w x) >>= λ _. v)
+  option_alone : (t : ℕ) → ¬ (t ≡ 7) → First (alone_grounds 0 t p x gs) (only_fault (read_option_as m (get_or option_forms t OptionForm.as_default) p w x) >>= λ _. v)
   option_alone zero n = plain 0 0 (λ h. omega arith)
   option_alone (suc zero) n = of_u32 0 1 (λ n. class_id (n / 65536) (n % 65536)) (grind arith) (λ h. omega arith)
   option_alone (suc (suc zero)) n = of_u32 0 2 hash (grind arith) (λ h. omega arith)
@@ -112,7 +112,7 @@ module _ (utf8 : GrammarIsUtf8) (m : Meaning) (p w : ℕ) (x : Bytes) (gs : List
   option_alone (suc (suc (suc (suc (suc (suc (suc (suc (suc (suc (suc zero))))))))))) n = of_u32 0 11 flags (grind arith) (λ h. omega arith)
   option_alone (suc (suc (suc (suc (suc (suc (suc (suc (suc (suc (suc (suc t)))))))))))) n = plain 0 (suc (suc (suc (suc (suc (suc (suc (suc (suc (suc (suc (suc t)))))))))))) (λ h. omega arith)
 
-  attribute_alone : (t : ℕ) → ¬ (t ≡ 2) → First (alone_grounds 2 t p x gs) (only_fault (read_as m (get_or attribute_forms t AttributeForm.as-default) [] p w x) >>= λ _. v)
+  attribute_alone : (t : ℕ) → ¬ (t ≡ 2) → First (alone_grounds 2 t p x gs) (only_fault (read_as m (get_or attribute_forms t AttributeForm.as_default) [] p w x) >>= λ _. v)
   attribute_alone zero n = plain 2 0 (λ h. omega arith)
   attribute_alone (suc zero) n = of_kind 2 1 kind (refl, refl) (λ h. omega arith)
   attribute_alone (suc (suc zero)) n = absurd (n refl)

@@ -203,7 +203,7 @@ module _ (m : Meaning) (n : ℕ) (small : n ≤ 65531) where
       (then (h xs a ok.0) (reach_list K turns w it P h l ok.1 (xs ++ it a ∷ [])))
 
 -- ── of an attribute that is no nest of options the kind is not asked ──
-kind_free : (m : Meaning) (k : Bytes) (p w : ℕ) (x : Bytes) (t : ℕ) → ¬ (t ≡ 2) → read_as m (get_or attribute_forms t AttributeForm.as-default) [] p w x ≡ read_as m (get_or attribute_forms t AttributeForm.as-default) k p w x
+kind_free : (m : Meaning) (k : Bytes) (p w : ℕ) (x : Bytes) (t : ℕ) → ¬ (t ≡ 2) → read_as m (get_or attribute_forms t AttributeForm.as_default) [] p w x ≡ read_as m (get_or attribute_forms t AttributeForm.as_default) k p w x
 kind_free m k p w x zero n = refl
 kind_free m k p w x (suc zero) n = refl
 kind_free m k p w x (suc (suc zero)) n = absurd (n refl)

@@ -112,15 +112,15 @@ the_kind_also p q (t ∷ u ∷ l) a e = err-not-ok _ a e
 
 module _ (m : Meaning) where
   as_also : (f : AttributeForm) (k : Bytes) (p q w : ℕ) (x : Bytes) → Also (read_as m f k p w x) (read_as m f k q w x)
-  as_also AttributeForm.as-kind k p q w x = also_then (text p 3 x) (text q 3 x) _ _ (text_also p q 3 x) (λ t. also_same (Ok (kind t)))
-  as_also AttributeForm.as-options k p q w x =
+  as_also AttributeForm.as_kind k p q w x = also_then (text p 3 x) (text q 3 x) _ _ (text_also p q 3 x) (λ t. also_same (Ok (kind t)))
+  as_also AttributeForm.as_options k p q w x =
       also_then _ _ _ _ (each-alike 4 (λ q v y. as_read q (m k v y)) (λ p q v y. as_read_also p q (m k v y)) (walk (p + 4) x) (walk (q + 4) x) (walk-alike (length x) (p + 4) (q + 4) x)) (λ l. also_same (Ok (options l)))
-  as_also AttributeForm.as-default k p q w x = also_same _
+  as_also AttributeForm.as_default k p q w x = also_same _
   as_also (AttributeForm.as_u32 f) k p q w x = also_then (u32 p 3 x) (u32 q 3 x) _ _ (u32_also p q 3 x) (λ n. also_same (Ok (f n)))
   as_also (AttributeForm.as_raw f) k p q w x = also_same _
 
   pub attribute_placeless : (k : Bytes) → Placeless (read_attribute m k)
-  attribute_placeless k p q w x = as_also (get_or attribute_forms (type_of w) AttributeForm.as-default) k p q w x
+  attribute_placeless k p q w x = as_also (get_or attribute_forms (type_of w) AttributeForm.as_default) k p q w x
 
   pub action_placeless : Placeless (read_action m)
   action_placeless p q w x =
@@ -130,12 +130,12 @@ module _ (m : Meaning) where
       (λ as'. also_same (Ok (record { tab = type_of w; kind_text = k; attributes = as' })))))
 
   option_also : (f : OptionForm) (p q w : ℕ) (x : Bytes) → Also (read_option_as m f p w x) (read_option_as m f q w x)
-  option_also OptionForm.as-class-id p q w x = also_then (u32 p 1 x) (u32 q 1 x) _ _ (u32_also p q 1 x) (λ n. also_same (Ok (class_id (n / 65536) (n % 65536))))
+  option_also OptionForm.as_class_id p q w x = also_then (u32 p 1 x) (u32 q 1 x) _ _ (u32_also p q 1 x) (λ n. also_same (Ok (class_id (n / 65536) (n % 65536))))
   option_also OptionForm.as_selector p q w x = also_then _ _ _ _ (selector_also p q x) (λ s. also_same (Ok (selector s)))
-  option_also OptionForm.as-actions p q w x = also_then _ _ _ _ (each-alike 2 (read_action m) action_placeless (walk (p + 4) x) (walk (q + 4) x) (walk-alike (length x) (p + 4) (q + 4) x)) (λ l. also_same (Ok (actions l)))
-  option_also OptionForm.as-default p q w x = also_same _
+  option_also OptionForm.as_actions p q w x = also_then _ _ _ _ (each-alike 2 (read_action m) action_placeless (walk (p + 4) x) (walk (q + 4) x) (walk-alike (length x) (p + 4) (q + 4) x)) (λ l. also_same (Ok (actions l)))
+  option_also OptionForm.as_default p q w x = also_same _
   option_also (OptionForm.as_u32 f) p q w x = also_then (u32 p 1 x) (u32 q 1 x) _ _ (u32_also p q 1 x) (λ n. also_same (Ok (f n)))
   option_also (OptionForm.as_raw f) p q w x = also_same _
 
   pub option_placeless : Placeless (read_option m)
-  option_placeless p q w x = option_also (get_or option_forms (type_of w) OptionForm.as-default) p q w x
+  option_placeless p q w x = option_also (get_or option_forms (type_of w) OptionForm.as_default) p q w x

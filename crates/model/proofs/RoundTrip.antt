@@ -68,11 +68,11 @@ module _ (m : Meaning) (laws : BookLaws m) where
         ap (λ (r : Read (List Action)). r >>= λ l. Ok (actions l)) reads;
   }
 
-  default_steady : (w t : ℕ) (x : Bytes) → Octets x → ¬ (t ≡ 7) → w < 65536 → type_of w ≡ t → get_or option_forms t OptionForm.as-default ≡ OptionForm.as-default → SteadyOption m laws (default w x)
+  default_steady : (w t : ℕ) (x : Bytes) → Octets x → ¬ (t ≡ 7) → w < 65536 → type_of w ≡ t → get_or option_forms t OptionForm.as_default ≡ OptionForm.as_default → SteadyOption m laws (default w x)
   default_steady w t x o n hw e f = record {
     known = ((λ z. n (sym e ∙ z)), o);
     word16 = hw;
-    again = λ p _. ap (λ (n : ℕ). read_option_as m (get_or option_forms n OptionForm.as-default) p w x) e ∙ ap (λ (g : OptionForm). read_option_as m g p w x) f;
+    again = λ p _. ap (λ (n : ℕ). read_option_as m (get_or option_forms n OptionForm.as_default) p w x) e ∙ ap (λ (g : OptionForm). read_option_as m g p w x) f;
   }
 
   hash_steady : (n : ℕ) → n < 4294967296 → SteadyOption m laws (hash n)
@@ -116,7 +116,7 @@ module _ (m : Meaning) (laws : BookLaws m) where
         subst (SteadyOption m laws) (ok_same g.1.1)
         (actions_steady g.0 (each_all (SteadyAction m laws) 2 (read_action m) (action_steady m laws) (walk (p + 4) x) (walk_sound (length x) (p + 4) x o) g.0 g.1.0))
 
-    by_type : (t : ℕ) → type_of w ≡ t → read_option_as m (get_or option_forms t OptionForm.as-default) p w x ≡ Ok a → SteadyOption m laws a
+    by_type : (t : ℕ) → type_of w ≡ t → read_option_as m (get_or option_forms t OptionForm.as_default) p w x ≡ Ok a → SteadyOption m laws a
     by_type zero e q = subst (SteadyOption m laws) (ok_same q) (default_steady w 0 x o (λ z. omega arith) hw e refl)
     by_type (suc zero) e q = steady_u32 (λ n. class_id (n / 65536) (n % 65536)) class_steady q
     by_type (suc (suc zero)) e q = steady_u32 hash hash_steady q

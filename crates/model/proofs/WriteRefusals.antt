@@ -21,10 +21,10 @@ Bounded o = (length (write_option o).payload ≤ 65531) ⊎ ((l : List Action) �
 
 -- what a form that carries a number or the bytes as found is written as
 abbrev Plain : OptionForm → Type 0
-Plain OptionForm.as-class-id = Unit {0}
+Plain OptionForm.as_class_id = Unit {0}
 Plain OptionForm.as_selector = Unit {0}
-Plain OptionForm.as-actions = Unit {0}
-Plain OptionForm.as-default = Unit {0}
+Plain OptionForm.as_actions = Unit {0}
+Plain OptionForm.as_default = Unit {0}
 Plain (OptionForm.as_u32 f) = (n : ℕ) → length (write_option (f n)).payload ≡ 4
 Plain (OptionForm.as_raw f) = (x : Bytes) → (write_option (f x)).payload ≡ x
 
@@ -33,11 +33,11 @@ all-at P [] d h last i = last
 all-at P (a ∷ l) d h last zero = h.0
 all-at P (a ∷ l) d h last (suc i) = all-at P l d h.1 last i
 
-plain : (t : ℕ) → Plain (get_or option_forms t OptionForm.as-default)
+plain : (t : ℕ) → Plain (get_or option_forms t OptionForm.as_default)
 plain t =
     let u = λ (n : ℕ). refl in
     let r = λ (x : Bytes). refl in
-    all-at Plain option_forms OptionForm.as-default (tt, (tt, (u, (u, (u, (tt, (r, (tt, (r, (r, (r, (u, tt)))))))))))) tt t
+    all-at Plain option_forms OptionForm.as_default (tt, (tt, (u, (u, (u, (tt, (r, (tt, (r, (r, (r, (u, tt)))))))))))) tt t
 
 selector_short : (s : Selector) → KeptSelector s → length (encode s) ≤ 65531
 selector_short s h =
@@ -48,16 +48,16 @@ selector_short s h =
 
 module _ (m : Meaning) (p w : ℕ) (x : Bytes) (hw : w < 65536) (o : Octets x) (short : length x ≤ 65531) (a : FilterOption) where
   bounded_as : (f : OptionForm) → Plain f → read_option_as m f p w x ≡ Ok a → Bounded a
-  bounded_as OptionForm.as-class-id h q =
+  bounded_as OptionForm.as_class_id h q =
       let g = chain (u32 p 1 x) (λ n. Ok (class_id (n / 65536) (n % 65536))) q in
       subst Bounded (ok_same g.1.1) (inl (omega arith))
   bounded_as OptionForm.as_selector h q =
       let g = chain (read_selector p x) (λ s. Ok (selector s)) q in
       subst Bounded (ok_same g.1.1) (inl (selector_short g.0 (selector-read p x g.0 o g.1.0)))
-  bounded_as OptionForm.as-actions h q =
+  bounded_as OptionForm.as_actions h q =
       let g = chain (each 2 (read_action m) (walk (p + 4) x)) (λ l. Ok (actions l)) q in
       inr (g.0, sym (ok_same g.1.1))
-  bounded_as OptionForm.as-default h q = subst Bounded (ok_same q) (inl short)
+  bounded_as OptionForm.as_default h q = subst Bounded (ok_same q) (inl short)
   bounded_as (OptionForm.as_u32 f) h q =
       let g = chain (u32 p 1 x) (λ n. Ok (f n)) q in
       let e : length (write_option (f g.0)).payload ≡ 4 = h g.0 in
@@ -65,7 +65,7 @@ module _ (m : Meaning) (p w : ℕ) (x : Bytes) (hw : w < 65536) (o : Octets x) (
   bounded_as (OptionForm.as_raw f) h q = subst Bounded (ok_same q) (inl (subst (λ (y : Bytes). length y ≤ 65531) (sym (h x)) short))
 
   bounded : read_option m p w x ≡ Ok a → Bounded a
-  bounded q = bounded_as (get_or option_forms (type_of w) OptionForm.as-default) (plain (type_of w)) q
+  bounded q = bounded_as (get_or option_forms (type_of w) OptionForm.as_default) (plain (type_of w)) q
 
 outgrows : (a : FilterOption) → Bounded a → 65531 < length (write_option a).payload → Outgrows a
 outgrows a (inl short) long = absurd (omega arith)

@@ -28,25 +28,25 @@ outcome_number (other z) = z
 
 -- what a mirror action does: named from 1 to 4 (TCA_* of tc_mirred.h)
 pub data MirrorAction : Type 0 where
-  egress-redir egress-mirror ingress-redir ingress-mirror : MirrorAction
+  egress_redir egress_mirror ingress_redir ingress_mirror : MirrorAction
   other : ℤ → MirrorAction
 
 abbrev pub mirror_action : ℤ → MirrorAction
 mirror_action (negsuc n) = MirrorAction.other (negsuc n)
-mirror_action (pos n) = slice_index_or (MirrorAction.other (pos n) ∷ egress-redir ∷ egress-mirror ∷ ingress-redir ∷ ingress-mirror ∷ []) n (MirrorAction.other (pos n))
+mirror_action (pos n) = slice_index_or (MirrorAction.other (pos n) ∷ egress_redir ∷ egress_mirror ∷ ingress_redir ∷ ingress_mirror ∷ []) n (MirrorAction.other (pos n))
 
 abbrev pub mirror_action_number : MirrorAction → ℤ
-mirror_action_number egress-redir = pos 1
-mirror_action_number egress-mirror = pos 2
-mirror_action_number ingress-redir = pos 3
-mirror_action_number ingress-mirror = pos 4
+mirror_action_number egress_redir = pos 1
+mirror_action_number egress_mirror = pos 2
+mirror_action_number ingress_redir = pos 3
+mirror_action_number ingress_mirror = pos 4
 mirror_action_number (MirrorAction.other z) = z
 
 abbrev pub named_outcomes : List Outcome
 named_outcomes = unspec ∷ ok ∷ reclassify ∷ shot ∷ pipe ∷ stolen ∷ queued ∷ repeat ∷ redirect ∷ trap ∷ []
 
 abbrev pub named_mirror_actions : List MirrorAction
-named_mirror_actions = egress-redir ∷ egress-mirror ∷ ingress-redir ∷ ingress-mirror ∷ []
+named_mirror_actions = egress_redir ∷ egress_mirror ∷ ingress_redir ∷ ingress_mirror ∷ []
 
 -- number to name to number is the identity, and each name is that of its number
 pub record NamesTellNumbers : Type 0 where

@@ -65,23 +65,23 @@ as_read p (refuse number need) = Err (refused p need number)
 
 -- the forms of an action's attributes, by type from 0 on; every further type is a default
 pub data AttributeForm : Type 0 where
-  as-kind as-options as-default : AttributeForm
+  as_kind as_options as_default : AttributeForm
   as_u32 : (ℕ → ActionAttribute) → AttributeForm
   as_raw : (Bytes → ActionAttribute) → AttributeForm
 
 abbrev pub attribute_forms : List AttributeForm
-attribute_forms = as-default ∷ as-kind ∷ as-options ∷ as_u32 index ∷ as_raw stats ∷ as-default ∷ as_raw cookie ∷ as-default ∷ as-default ∷ as-default ∷ as_u32 in_hw_count ∷ []
+attribute_forms = as_default ∷ as_kind ∷ as_options ∷ as_u32 index ∷ as_raw stats ∷ as_default ∷ as_raw cookie ∷ as_default ∷ as_default ∷ as_default ∷ as_u32 in_hw_count ∷ []
 
 module _ (m : Meaning) where
   abbrev pub read_as : AttributeForm → (kind_text : Bytes) → (place word : ℕ) → Bytes → Read ActionAttribute
-  read_as as-kind k p w x = text p 3 x >>= λ t. Ok (kind t)
-  read_as as-options k p w x = each 4 (λ q v y. as_read q (m k v y)) (walk (p + 4) x) >>= λ l. Ok (options l)
-  read_as as-default k p w x = Ok (other w x)
+  read_as as_kind k p w x = text p 3 x >>= λ t. Ok (kind t)
+  read_as as_options k p w x = each 4 (λ q v y. as_read q (m k v y)) (walk (p + 4) x) >>= λ l. Ok (options l)
+  read_as as_default k p w x = Ok (other w x)
   read_as (as_u32 f) k p w x = u32 p 3 x >>= λ n. Ok (f n)
   read_as (as_raw f) k p w x = Ok (f x)
 
   abbrev pub read_attribute : (kind_text : Bytes) → (place word : ℕ) → Bytes → Read ActionAttribute
-  read_attribute k p w x = read_as (slice_index_or attribute_forms (type_of w) as-default) k p w x
+  read_attribute k p w x = read_as (slice_index_or attribute_forms (type_of w) as_default) k p w x
 
 -- the kind texts of an action
 abbrev pub kinds : Walked → Read (List Bytes)
@@ -95,12 +95,12 @@ the_kind p (t ∷ []) = Ok t
 the_kind p (t ∷ u ∷ l) = Err (fault 11 p 2)
 
 pub data OptionForm : Type 0 where
-  as-class-id as_selector as-actions as-default : OptionForm
+  as_class_id as_selector as_actions as_default : OptionForm
   as_u32 : (ℕ → FilterOption) → OptionForm
   as_raw : (Bytes → FilterOption) → OptionForm
 
 abbrev pub option_forms : List OptionForm
-option_forms = OptionForm.as-default ∷ as-class-id ∷ OptionForm.as_u32 hash ∷ OptionForm.as_u32 link ∷ OptionForm.as_u32 divisor ∷ as_selector ∷ OptionForm.as_raw police ∷ as-actions
+option_forms = OptionForm.as_default ∷ as_class_id ∷ OptionForm.as_u32 hash ∷ OptionForm.as_u32 link ∷ OptionForm.as_u32 divisor ∷ as_selector ∷ OptionForm.as_raw police ∷ as_actions
     ∷ OptionForm.as_raw indev ∷ OptionForm.as_raw pcnt ∷ OptionForm.as_raw mark ∷ OptionForm.as_u32 flags ∷ []
 
 module _ (m : Meaning) where
@@ -111,15 +111,15 @@ module _ (m : Meaning) where
       Ok (record { tab = type_of w; kind_text = k; attributes = as' })
 
   abbrev pub read_option_as : OptionForm → (place word : ℕ) → Bytes → Read FilterOption
-  read_option_as as-class-id p w x = u32 p 1 x >>= λ n. Ok (class_id (n / 65536) (n % 65536))
+  read_option_as as_class_id p w x = u32 p 1 x >>= λ n. Ok (class_id (n / 65536) (n % 65536))
   read_option_as as_selector p w x = read_selector p x >>= λ s. Ok (selector s)
-  read_option_as as-actions p w x = each 2 read_action (walk (p + 4) x) >>= λ l. Ok (actions l)
-  read_option_as OptionForm.as-default p w x = Ok (default w x)
+  read_option_as as_actions p w x = each 2 read_action (walk (p + 4) x) >>= λ l. Ok (actions l)
+  read_option_as OptionForm.as_default p w x = Ok (default w x)
   read_option_as (OptionForm.as_u32 f) p w x = u32 p 1 x >>= λ n. Ok (f n)
   read_option_as (OptionForm.as_raw f) p w x = Ok (f x)
 
   abbrev pub read_option : (place word : ℕ) → Bytes → Read FilterOption
-  read_option p w x = read_option_as (slice_index_or option_forms (type_of w) OptionForm.as-default) p w x
+  read_option p w x = read_option_as (slice_index_or option_forms (type_of w) OptionForm.as_default) p w x
 
   abbrev pub read_options : Bytes → Read Reading
   read_options bs = each 1 read_option (walk 0 bs)

@@ -8,7 +8,7 @@ use Rattle.model.specs.Walk.{Walked, done, bad, item, walk}
 use Rattle.model.specs.Book.{Answer, accept, refuse, Meaning}
 use Rattle.model.specs.Page.{only_fault}
 use Rattle.model.specs.Selector.{wanted}
-use Rattle.model.specs.Reading.{FilterOption, ActionAttribute, each, u32, text, read_selector, as_read, AttributeForm, as-kind, as-options, as-default, as_u32, as_raw, attribute_forms, read_as, read_attribute, kinds, the_kind, OptionForm, option_forms, read_action, read_option_as, read_option}
+use Rattle.model.specs.Reading.{FilterOption, ActionAttribute, each, u32, text, read_selector, as_read, AttributeForm, as_kind, as_options, as_default, as_u32, as_raw, attribute_forms, read_as, read_attribute, kinds, the_kind, OptionForm, option_forms, read_action, read_option_as, read_option}
 use Rattle.model.specs.declared.fault.Fault.{Fault}
 use Rattle.model.specs.declared.fault.Layer.{Layer}
 use Rattle.payload.specs.Errors.{placed}
@@ -82,9 +82,9 @@ module _ (m : Meaning) where
   deep_options n k w h = deep_each n 4 (λ q v y. as_read q (m k v y)) h (λ q v y. deep_judged n q (m k v y) h) w
 
   deep_as : (f : AttributeForm) (k : Bytes) (p w : ℕ) (x : Bytes) → Deep 1 (read_as m f k p w x)
-  deep_as as-kind k p w x = deep_then 1 (text p 3 x) _ (deep_text 1 p x (omega arith)) (λ t. tt)
-  deep_as as-options k p w x = deep_then 1 (each 4 (λ q v y. as_read q (m k v y)) (walk (p + 4) x)) _ (deep_options 1 k (walk (p + 4) x) (omega arith)) (λ l. tt)
-  deep_as as-default k p w x = tt
+  deep_as as_kind k p w x = deep_then 1 (text p 3 x) _ (deep_text 1 p x (omega arith)) (λ t. tt)
+  deep_as as_options k p w x = deep_then 1 (each 4 (λ q v y. as_read q (m k v y)) (walk (p + 4) x)) _ (deep_options 1 k (walk (p + 4) x) (omega arith)) (λ l. tt)
+  deep_as as_default k p w x = tt
   deep_as (as_u32 f) k p w x = deep_then 1 (u32 p 3 x) _ (deep_number 1 p x (omega arith)) (λ n. tt)
   deep_as (as_raw f) k p w x = tt
 
@@ -93,7 +93,7 @@ module _ (m : Meaning) where
       deep_then 1 (kinds (walk (p + 4) x)) _ (deep_kinds (walk (p + 4) x)) (λ l.
       deep_then 1 (the_kind p l) _ (deep_kind p l) (λ k.
       deep_then 1 (each 3 (read_attribute m k) (walk (p + 4) x)) _
-      (deep_each 1 3 (read_attribute m k) (omega arith) (λ q v y. deep_as (get_or attribute_forms (type_of v) as-default) k q v y) (walk (p + 4) x)) (λ as'. tt)))
+      (deep_each 1 3 (read_attribute m k) (omega arith) (λ q v y. deep_as (get_or attribute_forms (type_of v) as_default) k q v y) (walk (p + 4) x)) (λ as'. tt)))
 
   -- ── a filter's option ──
   deep_option : (o : options.OptionRead) → Deep 1 (options.read_on m o)
@@ -105,7 +105,7 @@ module _ (m : Meaning) where
     shallow_number : {A : Type 0} (n : ℕ) (f : ℕ → A) → Shallow n (u32 p n x >>= λ k. Ok (f k))
     shallow_number n f = shallow_then n (u32 p n x) _ (shallow_if n (eqb (length x) 4) _ _ tt (omega arith)) (λ k. tt)
 
-    shallow_option : (t : ℕ) → (t ≡ 7 → ⊥) → Shallow 1 (read_option_as m (get_or option_forms t OptionForm.as-default) p w x)
+    shallow_option : (t : ℕ) → (t ≡ 7 → ⊥) → Shallow 1 (read_option_as m (get_or option_forms t OptionForm.as_default) p w x)
     shallow_option zero h = tt
     shallow_option (suc zero) h = shallow_number 1 (λ n. FilterOption.class_id (n / 65536) (n % 65536))
     shallow_option (suc (suc zero)) h = shallow_number 1 FilterOption.hash
@@ -142,7 +142,7 @@ module _ (m : Meaning) where
     deep_attribute k (attributes.whole a) = tt
     deep_attribute k (attributes.options_at q y) = deep_then 3 (each 4 (λ q v y. as_read q (m k v y)) (walk (q + 4) y)) _ (deep_options 3 k (walk (q + 4) y) (omega arith)) (λ l. tt)
 
-    shallow_attribute : (k : Bytes) (t : ℕ) → (t ≡ 2 → ⊥) → Shallow 3 (read_as m (get_or attribute_forms t as-default) k p w x)
+    shallow_attribute : (k : Bytes) (t : ℕ) → (t ≡ 2 → ⊥) → Shallow 3 (read_as m (get_or attribute_forms t as_default) k p w x)
     shallow_attribute k zero h = tt
     shallow_attribute k (suc zero) h = shallow_then 3 (text p 3 x) _ (shallow_if 3 (is_text (stripped x)) _ _ tt (omega arith)) (λ t. tt)
     shallow_attribute k (suc (suc zero)) h = absurd (h refl)

@@ -5,7 +5,7 @@ use Rattle.model.specs.Numbers.{Bytes}
 use Rattle.model.specs.Attributes.{type_of}
 use Rattle.model.specs.Faults.{◌>>=◌}
 use Rattle.model.specs.Book.{Meaning}
-use Rattle.model.specs.Reading.{FilterOption, hash, link, divisor, class_id, selector, flags, ActionAttribute, kind, index, in_hw_count, option_forms, OptionForm, read_option_as, read_option, attribute_forms, AttributeForm, as-default, read_as, read_attribute}
+use Rattle.model.specs.Reading.{FilterOption, hash, link, divisor, class_id, selector, flags, ActionAttribute, kind, index, in_hw_count, option_forms, OptionForm, read_option_as, read_option, attribute_forms, AttributeForm, as_default, read_as, read_attribute}
 use Rattle.payload.specs.Errors.{Lack}
 use Rattle.payload.specs.declared.error.DecodeError.{DecodeError}
 use Rattle.netlink.specs.declared.buffer.NlaBuffer.{NlaBuffer}
@@ -24,7 +24,7 @@ other t k h = ne_eqb (suc (suc (suc (suc (suc (suc (suc (suc (suc (suc (suc (suc
 
 module _ (m : Meaning) (b : NlaBuffer) where
   abbrev OptionAt : ℕ → Type 0
-  OptionAt t = (at_place b.place 1 (option_by t b) >>= options.read_on m) ≡ read_option_as m (get_or option_forms t OptionForm.as-default) b.place b.word b.value.now
+  OptionAt t = (at_place b.place 1 (option_by t b) >>= options.read_on m) ≡ read_option_as m (get_or option_forms t OptionForm.as_default) b.place b.word b.value.now
 
   abbrev NumberOption : (ℕ → FilterOption) → Type 0
   NumberOption f = (at_place b.place 1 (options.number_in f b.value.now) >>= options.read_on m) ≡ read_option_as m (OptionForm.as_u32 f) b.place b.word b.value.now
@@ -53,7 +53,7 @@ module _ (m : Meaning) (b : NlaBuffer) where
 
 module _ (m : Meaning) (k : Bytes) (b : NlaBuffer) where
   abbrev AttributeAt : ℕ → Type 0
-  AttributeAt t = (at_place b.place 3 (attribute_by t b) >>= attributes.read_on m k) ≡ read_as m (get_or attribute_forms t as-default) k b.place b.word b.value.now
+  AttributeAt t = (at_place b.place 3 (attribute_by t b) >>= attributes.read_on m k) ≡ read_as m (get_or attribute_forms t as_default) k b.place b.word b.value.now
 
   by_number-in_action : (f : ℕ → ActionAttribute) →
       (at_place b.place 3 (attributes.number_in f b.value.now) >>= attributes.read_on m k) ≡ read_as m (AttributeForm.as_u32 f) k b.place b.word b.value.now

@@ -1,7 +1,7 @@
 -- The names of the code are those of the model. Assumes nothing.
 use Rattle.std.specs.Prelude.{◌≡◌, ℤ}
 use Rattle.model.specs.Outcomes.{outcome, outcome_number, mirror_action, mirror_action_number}
-use Rattle.model.specs.Outcomes.{Outcome, unspec, ok, reclassify, shot, pipe, stolen, queued, repeat, redirect, trap, MirrorAction, egress-redir, egress-mirror, ingress-redir, ingress-mirror}
+use Rattle.model.specs.Outcomes.{Outcome, unspec, ok, reclassify, shot, pipe, stolen, queued, repeat, redirect, trap, MirrorAction, egress_redir, egress_mirror, ingress_redir, ingress_mirror}
 use Rattle.tc_records.specs.declared.outcome.TcActionType.{TcActionType}
 use Rattle.tc_records.specs.declared.outcome.TcActionType.TheVariants.{Unspec, Ok, Reclassify, Shot, Pipe, Stolen, Queued, Repeat, Redirect, Trap}
 use Rattle.tc_records.specs.declared.mirror_action.TcMirrorActionType.{TcMirrorActionType}
@@ -34,17 +34,17 @@ of_outcome trap = Trap
 of_outcome (Outcome.other z) = TcActionType.Other z
 
 abbrev pub as_mirror_action : TcMirrorActionType → MirrorAction
-as_mirror_action EgressRedir = egress-redir
-as_mirror_action EgressMirror = egress-mirror
-as_mirror_action IngressRedir = ingress-redir
-as_mirror_action IngressMirror = ingress-mirror
+as_mirror_action EgressRedir = egress_redir
+as_mirror_action EgressMirror = egress_mirror
+as_mirror_action IngressRedir = ingress_redir
+as_mirror_action IngressMirror = ingress_mirror
 as_mirror_action (TcMirrorActionType.Other z) = MirrorAction.other z
 
 abbrev pub of_mirror_action : MirrorAction → TcMirrorActionType
-of_mirror_action egress-redir = EgressRedir
-of_mirror_action egress-mirror = EgressMirror
-of_mirror_action ingress-redir = IngressRedir
-of_mirror_action ingress-mirror = IngressMirror
+of_mirror_action egress_redir = EgressRedir
+of_mirror_action egress_mirror = EgressMirror
+of_mirror_action ingress_redir = IngressRedir
+of_mirror_action ingress_mirror = IngressMirror
 of_mirror_action (MirrorAction.other z) = TcMirrorActionType.Other z
 
 -- the number of the name that a number has is that number

@@ -6,7 +6,7 @@ use Rattle.model.specs.Records.{Generic, TunnelKey, Mirror, Nat}
 use Rattle.model.proofs.Names.{names_tell_numbers}
 use Rattle.tc_records.specs.Names.{as_outcome, of_outcome, as_mirror_action, of_mirror_action}
 use Rattle.tc_records.specs.Layouts.{as_generic, of_generic, as_tunnel_key, of_tunnel_key, as_mirror, of_mirror, as_nat, of_nat}
-use Rattle.model.specs.Outcomes.{unspec, ok, reclassify, shot, pipe, stolen, queued, repeat, redirect, trap, egress-redir, egress-mirror, ingress-redir, ingress-mirror}
+use Rattle.model.specs.Outcomes.{unspec, ok, reclassify, shot, pipe, stolen, queued, repeat, redirect, trap, egress_redir, egress_mirror, ingress_redir, ingress_mirror}
 
 outcome_again : (o : Outcome) → as_outcome (of_outcome o) ≡ o
 outcome_again unspec = refl
@@ -22,10 +22,10 @@ outcome_again trap = refl
 outcome_again (Outcome.other z) = refl
 
 action_again : (a : MirrorAction) → as_mirror_action (of_mirror_action a) ≡ a
-action_again egress-redir = refl
-action_again egress-mirror = refl
-action_again ingress-redir = refl
-action_again ingress-mirror = refl
+action_again egress_redir = refl
+action_again egress_mirror = refl
+action_again ingress_redir = refl
+action_again ingress_mirror = refl
 action_again (MirrorAction.other z) = refl
 
 pub outcome_kept : (z : ℤ) → outcome_number (as_outcome (of_outcome (outcome z))) ≡ z
