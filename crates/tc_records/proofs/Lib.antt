@@ -3,3 +3,4 @@ pub mod Written
 pub mod Mirrors
 pub mod Keys
 pub mod SelectorParts
+pub mod Same

@@ -1,6 +1,6 @@
 // What every action has: the common head of its parameters, and its times.
 ghost use Rattle.std.specs.Prelude.{◌≡◌, refl};
-ghost use Rattle.std.proofs.Common.{ap, ◌∙◌};
+ghost use Rattle.std.proofs.Common.{ap, ◌∙◌, rules};
 ghost use Rattle.model.specs.Records.{generic, times};
 ghost use Rattle.tc_records.specs.Layouts.{as_generic, of_generic, as_times, of_times};
 ghost use Rattle.model.proofs.RecordLaws.{records_lawful};
@@ -33,7 +33,7 @@ impl Record for TcActionGeneric {
 
     ghost encode = { λ r. generic.encode (as_generic r) };
 
-    ghost whole = { λ bs o h. ap generic.encode (same_generic (generic.decode bs)) ∙ records_lawful.1 bs o h };
+    ghost whole = { λ bs o h. ap generic.encode (same_generic (λ o. Prim.search rules) (generic.decode bs)) ∙ records_lawful.1 bs o h };
 
     ghost sized = { λ x. refl };
 

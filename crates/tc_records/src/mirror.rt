@@ -31,7 +31,7 @@ impl Record for TcMirror {
 
     ghost encode = { λ r. mirror.encode (as_mirror r) };
 
-    ghost whole = { λ bs o h. ap mirror.encode (same_mirror (mirror.decode bs)) ∙ records_lawful.3 bs o h };
+    ghost whole = { λ bs o h. ap mirror.encode (same_mirror (λ o. Prim.search rules) (λ a. Prim.search rules) (mirror.decode bs)) ∙ records_lawful.3 bs o h };
 
     ghost sized = { λ x. refl };
 

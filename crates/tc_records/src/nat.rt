@@ -34,7 +34,7 @@ impl Record for TcNat {
 
     ghost encode = { λ r. nat.encode (as_nat r) };
 
-    ghost whole = { λ bs o h. ap nat.encode (same_nat (nat.decode bs)) ∙ records_lawful.5 bs o h };
+    ghost whole = { λ bs o h. ap nat.encode (same_nat (λ o. Prim.search rules) (nat.decode bs)) ∙ records_lawful.5 bs o h };
 
     ghost sized = { λ x. refl };
 

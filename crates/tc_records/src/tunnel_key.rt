@@ -28,7 +28,7 @@ impl Record for TcTunnelKey {
 
     ghost encode = { λ r. tunnel_key.encode (as_tunnel_key r) };
 
-    ghost whole = { λ bs o h. ap tunnel_key.encode (same_tunnel_key (tunnel_key.decode bs)) ∙ records_lawful.2 bs o h };
+    ghost whole = { λ bs o h. ap tunnel_key.encode (same_tunnel_key (λ o. Prim.search rules) (tunnel_key.decode bs)) ∙ records_lawful.2 bs o h };
 
     ghost sized = { λ x. refl };
 

@@ -1,4 +1,4 @@
-use Rattle.tc_records.specs.Same.{outcome_kept, action_kept}
+use Rattle.tc_records.proofs.Same.{outcome_kept, action_kept}
 use Rattle.tc_records.proofs.names.numbers_are_kept.Goals as goal
 
 pub returns : goal.returns
