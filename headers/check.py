@@ -9,7 +9,7 @@ DOC, RECORDS, SELECTOR, OUTCOMES = "docs/FORMAT.md", *(f"crates/model/specs/{n}.
 LEAST = 412  # the checks there are at present; fewer means that something is no longer found
 # constants that the document names though the uapi headers lack them; the document must say so
 ABSENT = ["TCA_ACT_FLAGS_" + n for n in ("POLICE", "BIND", "REPLACE", "NO_RTNL", "AT_INGRESS")]
-LAYOUTS = {"key": "tc_u32_key", "generic": "common_head", "tunnel-key": "tc_tunnel_key", "mirror": "tc_mirred", "times": "tcf_t", "nat": "tc_nat"}
+LAYOUTS = {"key": "tc_u32_key", "generic": "common_head", "tunnel_key": "tc_tunnel_key", "mirror": "tc_mirred", "times": "tcf_t", "nat": "tc_nat"}
 KIND = {"le": "u", "be": "be", "signed": "i"}
 checks, differences, seen = 0, 0, set()  # seen: (file, constant), and (document or direction, structure, field)
 
@@ -114,13 +114,13 @@ hold(DOC, "a note on absent constants", bool(re.search("`TCA_ACT_FLAGS_` constan
 # The specification: how records and the selector are read and written, and the numbers of outcomes and mirror actions.
 def layout(file, struct, pattern):
     block, at = re.search(pattern, source(file), re.S | re.M), 0
-    token = r"([\w-]+) = (le|be|signed) (\d+) (\d+) \w|(le|be|signed)-bytes (\d+) \(\w+ \.([\w-]+)\)|generic \.(decode|encode)|0 ∷|size = (\d+);"
+    token = r"(\w+) = (le|be|signed) (\d+) (\d+) \w|(le|be|signed)_bytes (\d+) \w+\.(\w+)|generic\.(decode|encode)|0 ∷|size = (\d+);"
     for m in re.finditer(token, block[0] if block else ""):
         where = f"{file}:{source(file).count(chr(10), 0, block.start() + m.start()) + 1}"
         if m[2]:
-            field(where, "specs, decode", struct, m[1].replace("-", "_"), int(m[3]), int(m[4]), KIND[m[2]] + str(8 * int(m[4])))
+            field(where, "specs, decode", struct, m[1], int(m[3]), int(m[4]), KIND[m[2]] + str(8 * int(m[4])))
         elif m[5]:
-            field(where, "specs, encode", struct, m[7].replace("-", "_"), at, int(m[6]), KIND[m[5]] + str(8 * int(m[6])))
+            field(where, "specs, encode", struct, m[7], at, int(m[6]), KIND[m[5]] + str(8 * int(m[6])))
         elif m[8]:
             common(where, "specs, " + m[8], struct)
         elif m[9]:
@@ -132,10 +132,10 @@ for name, struct in LAYOUTS.items():
     layout(RECORDS, struct, rf"^{name} = record \{{.*?^\}}")
 layout(SELECTOR, "tc_u32_sel", r"^decode x = record \{.*")
 nkeys = "le %d %d x" % fields["tc_u32_sel"]["nkeys"][:2]
-for line in f"wanted x = {keys_at} + {key_size} * {nkeys}\n", f"keys-in n (drop {key_size} bs)\n", f"keys = keys-in ({nkeys}) (drop {keys_at} x);":
+for line in f"wanted x = {keys_at} + {key_size} * {nkeys}\n", f"keys_in n (drop {key_size} bs)\n", f"keys = keys_in ({nkeys}) (drop {keys_at} x);":
     hold(SELECTOR, f"presence of `{line.strip()}`", line in source(SELECTOR), True)
-for kind, name, sign, n in re.findall(r"^(outcome|mirror-action)-number ([a-z-]+) = (pos|negsuc) (\d+)$", source(OUTCOMES), re.M):
-    name = {"outcome": "TC_ACT_", "mirror-action": "TCA_"}[kind] + name.upper().replace("-", "_")
+for kind, name, sign, n in re.findall(r"^(outcome|mirror_action)_number ([a-z_]+) = (pos|negsuc) (\d+)$", source(OUTCOMES), re.M):
+    name = {"outcome": "TC_ACT_", "mirror_action": "TCA_"}[kind] + name.upper()
     constant(OUTCOMES, OUTCOMES, int(n) if sign == "pos" else -1 - int(n), name)
 
 # Nothing may be missing.

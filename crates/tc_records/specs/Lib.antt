@@ -2,4 +2,4 @@ pub mod Reading
 pub mod Names
 pub mod Layouts
 pub mod Selectors
-pub mod Same
+pub mod Again

@@ -4,7 +4,7 @@ ghost use Rattle.std.proofs.Common.{ap, ◌∙◌, rules};
 ghost use Rattle.model.specs.Records.{generic, times};
 ghost use Rattle.tc_records.specs.Layouts.{as_generic, of_generic, as_times, of_times};
 ghost use Rattle.model.proofs.RecordLaws.{records_lawful};
-ghost use Rattle.tc_records.specs.Same.{same_generic};
+ghost use Rattle.tc_records.specs.Again.{generic_again};
 
 use crate::fields::{i32_at, i32_bytes, u32_at, u32_bytes, u64_at, u64_bytes};
 use crate::outcome::TcActionType;
@@ -33,7 +33,7 @@ impl Record for TcActionGeneric {
 
     ghost encode = { λ r. generic.encode (as_generic r) };
 
-    ghost whole = { λ bs o h. ap generic.encode (same_generic (λ o. Prim.search rules) (generic.decode bs)) ∙ records_lawful.1 bs o h };
+    ghost whole = { λ bs o h. ap generic.encode (generic_again (λ o. Prim.search rules) (generic.decode bs)) ∙ records_lawful.1 bs o h };
 
     ghost sized = { λ x. refl };
 

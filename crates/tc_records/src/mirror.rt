@@ -4,7 +4,7 @@ ghost use Rattle.tc_records.specs.Layouts.{as_mirror, of_mirror};
 ghost use Rattle.std.proofs.Common.{ap, ◌∙◌, rules};
 ghost use Rattle.std.specs.Prelude.{refl};
 ghost use Rattle.model.proofs.RecordLaws.{records_lawful};
-ghost use Rattle.tc_records.specs.Same.{same_mirror};
+ghost use Rattle.tc_records.specs.Again.{mirror_again};
 
 use crate::action::TcActionGeneric;
 use crate::fields::{i32_at, i32_bytes, u32_at, u32_bytes};
@@ -31,7 +31,7 @@ impl Record for TcMirror {
 
     ghost encode = { λ r. mirror.encode (as_mirror r) };
 
-    ghost whole = { λ bs o h. ap mirror.encode (same_mirror (λ o. Prim.search rules) (λ a. Prim.search rules) (mirror.decode bs)) ∙ records_lawful.3 bs o h };
+    ghost whole = { λ bs o h. ap mirror.encode (mirror_again (λ o. Prim.search rules) (λ a. Prim.search rules) (mirror.decode bs)) ∙ records_lawful.3 bs o h };
 
     ghost sized = { λ x. refl };
 

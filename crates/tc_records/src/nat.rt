@@ -4,7 +4,7 @@ ghost use Rattle.tc_records.specs.Layouts.{as_nat, of_nat};
 ghost use Rattle.std.proofs.Common.{ap, ◌∙◌, rules};
 ghost use Rattle.std.specs.Prelude.{refl};
 ghost use Rattle.model.proofs.RecordLaws.{records_lawful};
-ghost use Rattle.tc_records.specs.Same.{same_nat};
+ghost use Rattle.tc_records.specs.Again.{nat_again};
 
 use crate::action::TcActionGeneric;
 use crate::fields::{u32_at, u32_be_at, u32_be_bytes, u32_bytes};
@@ -34,7 +34,7 @@ impl Record for TcNat {
 
     ghost encode = { λ r. nat.encode (as_nat r) };
 
-    ghost whole = { λ bs o h. ap nat.encode (same_nat (λ o. Prim.search rules) (nat.decode bs)) ∙ records_lawful.5 bs o h };
+    ghost whole = { λ bs o h. ap nat.encode (nat_again (λ o. Prim.search rules) (nat.decode bs)) ∙ records_lawful.5 bs o h };
 
     ghost sized = { λ x. refl };
 

@@ -4,7 +4,7 @@ ghost use Rattle.tc_records.specs.Layouts.{as_tunnel_key, of_tunnel_key};
 ghost use Rattle.std.proofs.Common.{ap, ◌∙◌, rules};
 ghost use Rattle.std.specs.Prelude.{refl};
 ghost use Rattle.model.proofs.RecordLaws.{records_lawful};
-ghost use Rattle.tc_records.specs.Same.{same_tunnel_key};
+ghost use Rattle.tc_records.specs.Again.{tunnel_key_again};
 
 use crate::action::TcActionGeneric;
 use crate::fields::{i32_at, i32_bytes};
@@ -28,7 +28,7 @@ impl Record for TcTunnelKey {
 
     ghost encode = { λ r. tunnel_key.encode (as_tunnel_key r) };
 
-    ghost whole = { λ bs o h. ap tunnel_key.encode (same_tunnel_key (λ o. Prim.search rules) (tunnel_key.decode bs)) ∙ records_lawful.2 bs o h };
+    ghost whole = { λ bs o h. ap tunnel_key.encode (tunnel_key_again (λ o. Prim.search rules) (tunnel_key.decode bs)) ∙ records_lawful.2 bs o h };
 
     ghost sized = { λ x. refl };
 
