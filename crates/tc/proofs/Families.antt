@@ -11,7 +11,7 @@ use Rattle.netlink.specs.declared.buffer.NlaBuffer.{NlaBuffer}
 use Rattle.payload.specs.Errors.{Lack}
 use Rattle.payload.specs.Payloads.{address, address_part}
 use Rattle.tc_records.specs.Layouts.{as_times, of_times, as_mirror, of_mirror, as_nat, of_nat, as_tunnel_key, of_tunnel_key}
-use Rattle.tc_records.specs.Same.{same_mirror, same_nat, same_tunnel_key}
+use Rattle.tc_records.proofs.Same.{same_mirror, same_nat, same_tunnel_key}
 use Rattle.tc_options.specs.Mirrors.{mirror_by, mirror_option, mirror_word, mirror_payload}
 use Rattle.tc_options.specs.Nats.{nat_by, nat_option, nat_word, nat_payload}
 use Rattle.tc_options.specs.TunnelKeys.{tunnel_key_by, tunnel_key_option, tunnel_key_word, tunnel_key_payload}
