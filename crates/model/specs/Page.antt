@@ -12,7 +12,7 @@ pub record Page : Type 0 where
   pub used : ℕ
   pub heads : List ℕ
 
--- put writes one attribute; open-nest begins a nest, close ends the innermost nest and keeps it, strike ends it and removes it
+-- put writes one attribute; open_nest begins a nest, close ends the innermost nest and keeps it, strike ends it and removes it
 pub data Call : Type 0 where
   put : (word : ℕ) → Bytes → Call
   open_nest : (type : ℕ) → Call

@@ -68,7 +68,7 @@ impl Record for TcMirror {
 impl ParameterRecord for TcMirror {
     ghost head = { λ r. r.generic };
 
-    ghost common = { Prim.search rules };
+    ghost common = { λ bs. refl };
 
     fn generic(&self) -> TcActionGeneric {
         self.generic

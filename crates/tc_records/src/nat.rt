@@ -77,7 +77,7 @@ impl Record for TcNat {
 impl ParameterRecord for TcNat {
     ghost head = { λ r. r.generic };
 
-    ghost common = { Prim.search rules };
+    ghost common = { λ bs. refl };
 
     fn generic(&self) -> TcActionGeneric {
         self.generic

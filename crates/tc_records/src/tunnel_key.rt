@@ -62,7 +62,7 @@ impl Record for TcTunnelKey {
 impl ParameterRecord for TcTunnelKey {
     ghost head = { λ r. r.generic };
 
-    ghost common = { Prim.search rules };
+    ghost common = { λ bs. refl };
 
     fn generic(&self) -> TcActionGeneric {
         self.generic
