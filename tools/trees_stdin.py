@@ -8,12 +8,9 @@ The trees come from oracle/definitions.py, which is written from docs/FORMAT.md 
 """
 from struct import pack
 
+from sample_entry import attribute
+
 BYTES = bytes(range(0xA0, 0x100))
-
-
-def attribute(word, payload):
-    length = 4 + len(payload)
-    return pack("<HH", length, word) + payload + bytes(-length % 4)
 
 
 def action(kind, *options, tab=1, more=b""):

@@ -1,32 +1,12 @@
 #!/usr/bin/env python3
 """Prints what the walkthrough must print, from the rules of docs/FORMAT.md and docs/REFUSALS.md.
 
-It shares nothing with the Rattle code: the sample entry is packed here field by field, and walked by
+It shares nothing with the Rattle code: the sample entry is packed field by field by sample_entry.py, and walked by
 an own reading of the rules. Run it as: tools/walkthrough_stdout.py | diff - crates/walkthrough/stdout
 """
 import struct
 
-
-def attribute(word, payload):
-    length = 4 + len(payload)
-    return struct.pack("<HH", length, word) + payload + bytes(-length % 4)
-
-
-def entry(kind):
-    class_id = attribute(1, struct.pack("<HH", 1, 1))  # minor, major
-    head = struct.pack("<BBBB", 1, 0, 1, 0) + struct.pack(">H", 0) + struct.pack("<Hhh", 0, 0, 0) + struct.pack(">I", 0)
-    key = struct.pack(">II", 0xFFFF, 10001) + struct.pack("<ii", 20, 0)
-    mirror = struct.pack("<IIiii", 1, 0, 3, 0, 0) + struct.pack("<iI", 2, 7)
-    action = attribute(1, attribute(1, kind) + attribute(0x8002, attribute(2, mirror)))
-    return class_id + attribute(5, head + key) + attribute(7, action)
-
-
-CAUSES = {
-    6: "fewer than 4 bytes remain where an attribute must begin",
-    7: "the length field exceeds the bytes remaining",
-    8: "the length field is below 4",
-}
-LAYERS = {1: "filter option", 2: "action", 3: "action attribute", 4: "action option"}
+from sample_entry import CAUSES, LAYERS, attribute, entry
 
 
 def walk(data, place):
