@@ -7,6 +7,7 @@ ghost use Rattle.payload.specs.Payloads.{exactly, address, address_part};
 use crate::error::DecodeError;
 use std::fmt;
 
+// Not `std::net::Ipv4Addr`: contracts above name the octets, and std's `From<u32>` leaves no body of ours to promise their order.
 /// An IPv4 address, by its four bytes as they stand in the payload.
 #[derive(Clone, Copy)]
 pub struct Ipv4Addr {
