@@ -42,7 +42,7 @@ pub struct Ipv6Addr<'a> {
 pub fn parse_ipv4_addr(raw: &[u8]) -> Result<Ipv4Addr, DecodeError>
     ensures { decoded result ≡ exactly 4 address raw.now }
 {
-    match raw.as_array() {
+    match raw.as_array::<4>() {
         Some(octets) => Ok(Ipv4Addr { octets: *octets }),
         None => Err(DecodeError::wrong_length(4)),
     }
