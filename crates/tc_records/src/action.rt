@@ -48,7 +48,7 @@ impl Record for TcActionGeneric {
         Some(TcActionGeneric {
             index: u32_at(bytes, 0),
             capab: u32_at(bytes, 4),
-            action: TcActionType::from_number(i32_at(bytes, 8)),
+            action: TcActionType::from(i32_at(bytes, 8)),
             refcnt: i32_at(bytes, 12),
             bindcnt: i32_at(bytes, 16),
         })
@@ -59,7 +59,7 @@ impl Record for TcActionGeneric {
         if whole {
             let index = u32_bytes(self.index);
             let capab = u32_bytes(self.capab);
-            let action = i32_bytes(self.action.number());
+            let action = i32_bytes(i32::from(self.action));
             let refcnt = i32_bytes(self.refcnt);
             let bindcnt = i32_bytes(self.bindcnt);
             overwrite(buffer, 0, &index);

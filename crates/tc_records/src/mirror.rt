@@ -46,7 +46,7 @@ impl Record for TcMirror {
         let generic = <TcActionGeneric as Record>::read(bytes)?;
         Some(TcMirror {
             generic,
-            eaction: TcMirrorActionType::from_number(i32_at(bytes, 20)),
+            eaction: TcMirrorActionType::from(i32_at(bytes, 20)),
             ifindex: u32_at(bytes, 24),
         })
     }
@@ -55,7 +55,7 @@ impl Record for TcMirror {
         let whole = buffer.len() == 28;
         if whole {
             let generic = self.generic.to_bytes();
-            let eaction = i32_bytes(self.eaction.number());
+            let eaction = i32_bytes(i32::from(self.eaction));
             let ifindex = u32_bytes(self.ifindex);
             overwrite(buffer, 0, &generic);
             overwrite(buffer, 20, &eaction);

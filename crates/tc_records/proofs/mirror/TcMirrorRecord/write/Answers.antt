@@ -13,8 +13,8 @@ returns-then-whole c =
     let old = c.args.buffer.now in
     let k = c.args.self.now in
     let size : length old ≡ 28 = omega arith in
-    let f1 : SFits w32 c.number.result = search rules in
+    let f1 : SFits w32 c.from.result = search rules in
     let s0 = more (none old) (generic.encode (as_generic k.generic)) 0 c.overwrite.ensures.after c.to_bytes-generic.ensures refl (omega arith) in
-    let s1 = more s0 (signed_bytes 4 (mirror_action_number (as_mirror_action k.eaction))) 20 c.overwrite-then-whole.ensures.after (c.i32_bytes-eaction.ensures ∙ ap (signed_bytes 4) (to_z-of_z w32 c.number.result f1 ∙ c.number.ensures)) refl (omega arith) in
+    let s1 = more s0 (signed_bytes 4 (mirror_action_number (as_mirror_action k.eaction))) 20 c.overwrite-then-whole.ensures.after (c.i32_bytes-eaction.ensures ∙ ap (signed_bytes 4) (to_z-of_z w32 c.from.result f1 ∙ c.from.ensures)) refl (omega arith) in
     let s2 = more s1 (le_bytes 4 k.ifindex) 24 c.overwrite-then-whole-2.ensures.after c.u32_bytes-ifindex.ensures refl (omega arith) in
     record { value = refl; after = written-whole 28 old _ _ size (filled s2 (omega arith)) }
