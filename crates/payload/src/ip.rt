@@ -5,7 +5,6 @@ ghost use Rattle.payload.specs.Errors.{decoded};
 ghost use Rattle.payload.specs.Payloads.{exactly, address, address_part};
 
 use crate::error::DecodeError;
-use crate::parsers::wrong_length;
 use std::fmt;
 
 /// An IPv4 address, by its four bytes as they stand in the payload.
@@ -46,7 +45,7 @@ pub fn parse_ipv4_addr(raw: &[u8]) -> Result<Ipv4Addr, DecodeError>
         [a, b, c, d] => Ok(Ipv4Addr {
             octets: [*a, *b, *c, *d],
         }),
-        _ => Err(wrong_length(4)),
+        _ => Err(DecodeError::wrong_length(4)),
     }
 }
 
@@ -57,6 +56,6 @@ pub fn parse_ipv6_addr<'a>(raw: &'a [u8]) -> Result<Ipv6Addr<'a>, DecodeError>
     if raw.len() == 16 {
         Ok(Ipv6Addr { octets: raw })
     } else {
-        Err(wrong_length(16))
+        Err(DecodeError::wrong_length(16))
     }
 }
