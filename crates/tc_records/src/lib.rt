@@ -3,7 +3,6 @@
 
 pub mod action;
 pub mod cls_u32;
-mod fields;
 pub mod header;
 mod joined;
 pub mod mirror;

@@ -7,11 +7,11 @@ ghost use Rattle.model.proofs.RecordLaws.{records_lawful};
 ghost use Rattle.tc_records.specs.Again.{nat_again};
 
 use crate::action::TcActionGeneric;
-use crate::fields::{u32_at, u32_be_at, u32_be_bytes, u32_bytes};
 use crate::joined::joined;
 use crate::parameters::ParameterRecord;
 use crate::record::Record;
 use netlink::overwrite::fill;
+use payload::number::{BigEndian, Number, number_at};
 
 /// The parameters of an address translation.
 #[derive(Clone, Copy)]
@@ -44,16 +44,12 @@ impl Record for TcNat {
     }
 
     fn read(bytes: &[u8]) -> Option<TcNat> {
-        if bytes.len() < 36 {
-            return None;
-        }
-        let generic = <TcActionGeneric as Record>::read(bytes)?;
         Some(TcNat {
-            generic,
-            old_addr: u32_be_at(bytes, 20),
-            new_addr: u32_be_at(bytes, 24),
-            mask: u32_be_at(bytes, 28),
-            flags: u32_at(bytes, 32),
+            generic: TcActionGeneric::read(bytes)?,
+            old_addr: number_at::<BigEndian<u32>, 4>(bytes, 20)?.0,
+            new_addr: number_at::<BigEndian<u32>, 4>(bytes, 24)?.0,
+            mask: number_at::<BigEndian<u32>, 4>(bytes, 28)?.0,
+            flags: number_at(bytes, 32)?,
         })
     }
 
@@ -69,10 +65,10 @@ impl TcNat {
     {
         joined(&[
             &self.generic.to_bytes(),
-            &u32_be_bytes(self.old_addr),
-            &u32_be_bytes(self.new_addr),
-            &u32_be_bytes(self.mask),
-            &u32_bytes(self.flags),
+            &BigEndian(self.old_addr).to_bytes(),
+            &BigEndian(self.new_addr).to_bytes(),
+            &BigEndian(self.mask).to_bytes(),
+            &self.flags.to_bytes(),
         ])
     }
 }
