@@ -80,10 +80,7 @@ impl<'a> TcU32Selector<'a> {
             return None;
         }
         let at = 16 * i;
-        if self.keys.len() < at + 16 {
-            return None;
-        }
-        <TcU32Key as Record>::read(&self.keys[at..])
+        TcU32Key::read(self.keys.get(at..)?)
     }
 
     /// How many bytes the selector is written as.
