@@ -13,11 +13,11 @@ pub struct Ipv4Addr {
     pub octets: [u8; 4],
 }
 
-impl Ipv4Addr {
-    /// The address of a number: its highest byte first.
-    pub fn from_number(number: u32) -> Self
-        ensures { result.octets ≡ be_bytes 4 number }
-    {
+/// The address of a number: its highest byte first.
+impl From<u32> for Ipv4Addr {
+    ghost from_gives = { λ number r. r.octets ≡ be_bytes 4 number };
+
+    fn from(number: u32) -> Self {
         Ipv4Addr {
             octets: number.to_be_bytes(),
         }
@@ -41,11 +41,9 @@ pub struct Ipv6Addr<'a> {
 pub fn parse_ipv4_addr(raw: &[u8]) -> Result<Ipv4Addr, DecodeError>
     ensures { decoded result ≡ exactly 4 address raw.now }
 {
-    match raw {
-        [a, b, c, d] => Ok(Ipv4Addr {
-            octets: [*a, *b, *c, *d],
-        }),
-        _ => Err(DecodeError::wrong_length(4)),
+    match raw.as_array() {
+        Some(octets) => Ok(Ipv4Addr { octets: *octets }),
+        None => Err(DecodeError::wrong_length(4)),
     }
 }
 
