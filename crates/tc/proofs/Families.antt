@@ -1,11 +1,11 @@
 -- What each kind's options tell is the shipped book's answer. Assumes nothing.
-use Rattle.std.proofs.Common.{◌≡◌, ℕ, zero, suc, Bool, true, false, cond, List, [], get_or, codes, Ok, Err, Result, sym, refl, ap, ◌∙◌, arith, w8, Fits, Bor}
+use Rattle.std.proofs.Common.{◌≡◌, ℕ, zero, suc, Bool, true, false, cond, [], get_or, codes, Ok, Err, Result, sym, refl, ap, ◌∙◌, arith, w8, Fits, Bor}
 use Rattle.std.specs.Str.{bytes_eq}
 use Rattle.std.proofs.lemmas.Bool.{ne_eqb}
 use Rattle.model.specs.Numbers.{Bytes, Octets, le, be}
 use Rattle.model.specs.Attributes.{type_of}
 use Rattle.model.specs.Records.{times, mirror, nat, tunnel_key}
-use Rattle.model.specs.Shipped.{Form, default, judge, truth, mirred_forms, nat_forms, tunnel_key_forms, forms, shipped}
+use Rattle.model.specs.Shipped.{default, judge, truth, mirred_forms, nat_forms, tunnel_key_forms, shipped}
 use Rattle.model.proofs.RecordLaws.{records_lawful}
 use Rattle.netlink.specs.declared.buffer.NlaBuffer.{NlaBuffer}
 use Rattle.payload.specs.Errors.{Lack}

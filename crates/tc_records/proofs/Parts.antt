@@ -1,7 +1,7 @@
 -- Numbers at a place in bytes, byte by byte. Assumes nothing.
-use Rattle.std.proofs.Common.{◌≡◌, ℕ, suc, ◌+◌, ◌-◌, ◌*◌, ◌<◌, ◌≤◌, [], ◌∷◌, reverse, length, get_or, take, drop, sym, ap, ◌∙◌, arith, length-drop}
-use Rattle.std.proofs.lemmas.List.{drop_more, drop-drop}
-use Rattle.model.specs.Numbers.{Bytes, number, part, le, be}
+use Rattle.std.proofs.Common.{◌≡◌, ℕ, suc, ◌+◌, ◌<◌, [], ◌∷◌, length, get_or, take, sym, ap, ◌∙◌, arith}
+use Rattle.std.proofs.lemmas.List.{drop_more}
+use Rattle.model.specs.Numbers.{Bytes, number, part, le}
 
 -- one byte more
 pub part-more : (i n : ℕ) (bs : Bytes) → i < length bs → part i (suc n) bs ≡ get_or bs i 0 ∷ part (i + 1) n bs

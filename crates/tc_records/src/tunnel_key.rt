@@ -54,10 +54,7 @@ impl TcTunnelKey {
     fn to_array(&self) -> [u8; 24]
         ensures { result ≡ tunnel_key.encode (as_tunnel_key self.now) }
     {
-        joined(&[
-            &self.generic.to_bytes(),
-            &self.t_action.to_bytes(),
-        ])
+        joined(&[&self.generic.to_bytes(), &self.t_action.to_bytes()])
     }
 }
 

@@ -1,4 +1,4 @@
-use Rattle.std.proofs.Common.{◌≡◌, ℕ, ◌≤◌, length, Bool, true, false, cond, leb, ltb, Some, None, Option, ℤ, sym, refl, ap, ◌∙◌, arith, rules, w32, SFits}
+use Rattle.std.proofs.Common.{◌≡◌, ℕ, ◌≤◌, length, Bool, true, false, cond, leb, ltb, Some, None, ℤ, sym, refl, ap, ◌∙◌, rules, w32, SFits}
 use Rattle.std.proofs.lemmas.Int.{to_z-of_z}
 use Rattle.std.proofs.lemmas.Bool.{cond-false, le-ltb, leb-true}
 use Rattle.model.specs.Numbers.{Bytes, le, signed}

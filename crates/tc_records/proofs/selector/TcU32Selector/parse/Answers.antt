@@ -1,6 +1,6 @@
 use Rattle.std.proofs.Common.{◌≡◌, ℕ, ◌+◌, ◌-◌, ◌*◌, ◌≤◌, length, take, drop, ap, ◌∙◌, arith, w16, SFits, rules}
 use Rattle.std.proofs.lemmas.Int.{to_z-of_z}
-use Rattle.model.specs.Numbers.{le, part}
+use Rattle.model.specs.Numbers.{le}
 use Rattle.tc_records.specs.Selectors.{HeadIn}
 use Rattle.tc_records.proofs.SelectorParts.{octets, Found, reads, written, modelled}
 use Rattle.tc_records.proofs.selector.TcU32Selector.parse.Goals as goal
