@@ -1,7 +1,7 @@
 -- Parts written one after another into a buffer that they fill. Assumes nothing.
-use Rattle.std.proofs.Common.{◌≡◌, ℕ, ◌+◌, ◌≤◌, false, cond, eqb, ltb, [], ◌++◌, length, drop, Ok, Err, Result, sym, refl, ap, ◌∙◌, zero-add, arith}
+use Rattle.std.proofs.Common.{◌≡◌, ℕ, ◌+◌, ◌≤◌, false, ltb, [], ◌++◌, length, drop, Ok, Err, Result, sym, refl, ap, ◌∙◌, zero-add, arith}
 use Rattle.std.proofs.lemmas.List.{append-nil, drop_all}
-use Rattle.std.proofs.lemmas.Bool.{cond-true, cond-false, eq-eqb, le-ltb}
+use Rattle.std.proofs.lemmas.Bool.{cond-false, le-ltb}
 use Rattle.model.specs.Numbers.{Bytes}
 use Rattle.model.specs.Page.{over}
 use Rattle.netlink.specs.Emission.{over_if_it_fits, emission, buffer_after}
@@ -29,10 +29,6 @@ more {old} {now} {written} s p {r} {next} at e q a room =
 pub filled : {old now written : Bytes} → SoFar old now written → length written ≡ length old → now ≡ written
 filled {old} {now} {written} s e =
     s.front ∙ ap (λ (n : ℕ). written ++ drop n old) (zero-add (length written)) ∙ ap (λ (r : Bytes). written ++ r) (drop_all (length written) old (omega arith)) ∙ append-nil written
-
--- the clause of a write that was made
-pub written-whole : (n : ℕ) (old now x : Bytes) → length old ≡ n → now ≡ x → now ≡ cond (eqb (length old) n) x old
-written-whole n old now x e w = w ∙ sym (cond-true (eqb (length old) n) x old (eq-eqb (length old) n e))
 
 -- the clauses of a form that was written at the front of a longer buffer
 module _ (old now form : Bytes) (room : length form ≤ length old) where
