@@ -14,15 +14,20 @@ use payload::text::parse_string;
 /// The type of a kind.
 pub const TCA_ACT_KIND: u16 = 1;
 
-const TCA_ACT_OPTIONS: u16 = 2;
+/// The type of an action's options.
+pub const TCA_ACT_OPTIONS: u16 = 2;
 
-const TCA_ACT_INDEX: u16 = 3;
+/// The type of an action's number.
+pub const TCA_ACT_INDEX: u16 = 3;
 
-const TCA_ACT_STATS: u16 = 4;
+/// The type of statistics.
+pub const TCA_ACT_STATS: u16 = 4;
 
-const TCA_ACT_COOKIE: u16 = 6;
+/// The type of a cookie.
+pub const TCA_ACT_COOKIE: u16 = 6;
 
-const TCA_ACT_IN_HW_COUNT: u16 = 10;
+/// The type of a count of hardware.
+pub const TCA_ACT_IN_HW_COUNT: u16 = 10;
 
 /// An attribute of an action. What is not a number is a part of the filter.
 #[derive(Clone, Copy)]

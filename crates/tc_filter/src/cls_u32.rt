@@ -12,27 +12,38 @@ use payload::parsers::parse_u32;
 use tc_records::header::TcHandle;
 use tc_records::selector::TcU32Selector;
 
-const TCA_U32_CLASSID: u16 = 1;
+/// The type of a class.
+pub const TCA_U32_CLASSID: u16 = 1;
 
-const TCA_U32_HASH: u16 = 2;
+/// The type of a hash table.
+pub const TCA_U32_HASH: u16 = 2;
 
-const TCA_U32_LINK: u16 = 3;
+/// The type of a link to a hash table.
+pub const TCA_U32_LINK: u16 = 3;
 
-const TCA_U32_DIVISOR: u16 = 4;
+/// The type of a divisor.
+pub const TCA_U32_DIVISOR: u16 = 4;
 
-const TCA_U32_SEL: u16 = 5;
+/// The type of a selector.
+pub const TCA_U32_SEL: u16 = 5;
 
-const TCA_U32_POLICE: u16 = 6;
+/// The type of a rate limit.
+pub const TCA_U32_POLICE: u16 = 6;
 
-const TCA_U32_ACT: u16 = 7;
+/// The type of a list of actions.
+pub const TCA_U32_ACT: u16 = 7;
 
-const TCA_U32_INDEV: u16 = 8;
+/// The type of an interface.
+pub const TCA_U32_INDEV: u16 = 8;
 
-const TCA_U32_PCNT: u16 = 9;
+/// The type of counters.
+pub const TCA_U32_PCNT: u16 = 9;
 
-const TCA_U32_MARK: u16 = 10;
+/// The type of a mark.
+pub const TCA_U32_MARK: u16 = 10;
 
-const TCA_U32_FLAGS: u16 = 11;
+/// The type of flags.
+pub const TCA_U32_FLAGS: u16 = 11;
 
 /// An option of a filter. What is not a number is a part of the filter.
 #[derive(Clone, Copy)]

@@ -3,16 +3,12 @@ ghost use Rattle.std.specs.Prelude.{◌≡◌, [], ◌∷◌, ◌++◌, length, 
 ghost use Rattle.tc_records.specs.Selectors.{selector_form};
 ghost use Rattle.tc_filter.specs.Leaves.{leaf_word, leaf_payload};
 
+use crate::action_attribute::TCA_ACT_KIND;
+use crate::cls_u32::TCA_U32_SEL;
 use netlink::default_nla::DefaultNla;
 use netlink::nla::Nla;
 use netlink::overwrite::{fill, overwrite};
 use tc_records::selector::TcU32Selector;
-
-/// The type of a selector.
-const TCA_U32_SEL: u16 = 5;
-
-/// The type of a kind.
-const TCA_ACT_KIND: u16 = 1;
 
 /// An attribute with no attributes inside, as it is written.
 #[derive(Clone, Copy)]
