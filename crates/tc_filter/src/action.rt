@@ -67,24 +67,17 @@ fn kind_of<'a>(action: &NlaBuffer<'a>) -> Result<&'a str, Fault>
     }
 }
 
-/// An action with its kind.
-fn with_kind<'a>(buf: &NlaBuffer<'a>) -> Result<TcAction<'a>, Fault>
-    ensures { action_heard result ≡ action_found buf.now }
-{
-    let kind = kind_of(buf)?;
-    Ok(TcAction {
-        tab: buf.kind(),
-        kind,
-        attributes: *buf,
-    })
-}
-
 impl<'a> TcAction<'a> {
     /// Finds an action's kind, wherever it stands: cause 10 where there is none, and 11 where there are several, both at the action's head.
     pub fn parse(buf: &NlaBuffer<'a>) -> Result<TcAction<'a>, Fault>
         ensures found { action_heard result ≡ action_found buf.now }
         ensures reads { InMemory buf.now → (m : Meaning) → action_reads m result ≡ read_action m buf.now.place buf.now.word buf.now.value.now }
     {
-        with_kind(buf)
+        let kind = kind_of(buf)?;
+        Ok(TcAction {
+            tab: buf.kind(),
+            kind,
+            attributes: *buf,
+        })
     }
 }
