@@ -74,38 +74,30 @@ pub enum TcFilterU32Option<'a> {
     Other(DefaultNla<'a>),
 }
 
-/// An option by the type in its word.
-fn option_of_type<'a>(buf: &NlaBuffer<'a>) -> Result<TcFilterU32Option<'a>, DecodeError>
-    ensures heard { option_heard result ≡ option_by (type_of buf.now.word) buf.now }
-    ensures part { IfOk result (PartOf buf.now) }
-{
-    match buf.kind() {
-        TCA_U32_CLASSID => Ok(TcFilterU32Option::ClassId(TcHandle::from_number(parse_u32(
-            buf.value,
-        )?))),
-        TCA_U32_HASH => Ok(TcFilterU32Option::Hash(parse_u32(buf.value)?)),
-        TCA_U32_LINK => Ok(TcFilterU32Option::Link(parse_u32(buf.value)?)),
-        TCA_U32_DIVISOR => Ok(TcFilterU32Option::Divisor(parse_u32(buf.value)?)),
-        TCA_U32_SEL => Ok(TcFilterU32Option::Selector(TcU32Selector::parse(buf.value)?)),
-        TCA_U32_POLICE => Ok(TcFilterU32Option::Police(buf.value)),
-        TCA_U32_ACT => Ok(TcFilterU32Option::Action(*buf)),
-        TCA_U32_INDEV => Ok(TcFilterU32Option::Indev(buf.value)),
-        TCA_U32_PCNT => Ok(TcFilterU32Option::Pnct(buf.value)),
-        TCA_U32_MARK => Ok(TcFilterU32Option::Mark(buf.value)),
-        TCA_U32_FLAGS => Ok(TcFilterU32Option::Flags(parse_u32(buf.value)?)),
-        _ => Ok(TcFilterU32Option::Other(DefaultNla {
-            word: buf.word,
-            value: buf.value,
-        })),
-    }
-}
-
 impl<'a> TcFilterU32Option<'a> {
     /// Reads an option, as far as no book is asked: a list of actions is handed out as it stands.
     pub fn parse(buf: &NlaBuffer<'a>) -> Result<TcFilterU32Option<'a>, DecodeError>
         ensures reads { (m : Meaning) → option_reads m buf.now.place result ≡ read_option m buf.now.place buf.now.word buf.now.value.now }
         ensures part { IfOk result (PartOf buf.now) }
     {
-        option_of_type(buf)
+        match buf.kind() {
+            TCA_U32_CLASSID => Ok(TcFilterU32Option::ClassId(TcHandle::from_number(parse_u32(
+                buf.value,
+            )?))),
+            TCA_U32_HASH => Ok(TcFilterU32Option::Hash(parse_u32(buf.value)?)),
+            TCA_U32_LINK => Ok(TcFilterU32Option::Link(parse_u32(buf.value)?)),
+            TCA_U32_DIVISOR => Ok(TcFilterU32Option::Divisor(parse_u32(buf.value)?)),
+            TCA_U32_SEL => Ok(TcFilterU32Option::Selector(TcU32Selector::parse(buf.value)?)),
+            TCA_U32_POLICE => Ok(TcFilterU32Option::Police(buf.value)),
+            TCA_U32_ACT => Ok(TcFilterU32Option::Action(*buf)),
+            TCA_U32_INDEV => Ok(TcFilterU32Option::Indev(buf.value)),
+            TCA_U32_PCNT => Ok(TcFilterU32Option::Pnct(buf.value)),
+            TCA_U32_MARK => Ok(TcFilterU32Option::Mark(buf.value)),
+            TCA_U32_FLAGS => Ok(TcFilterU32Option::Flags(parse_u32(buf.value)?)),
+            _ => Ok(TcFilterU32Option::Other(DefaultNla {
+                word: buf.word,
+                value: buf.value,
+            })),
+        }
     }
 }
