@@ -4,8 +4,8 @@ use Rattle.model.specs.Numbers.{Bytes}
 use Rattle.model.specs.Faults.{layer_number, Read}
 use Rattle.model.specs.Walk.{Walked}
 use Rattle.netlink.specs.declared.walker.NlasIterator.{NlasIterator}
-use Rattle.netlink.specs.Walking.{Goes, ahead}
-use Rattle.cursors.specs.Steps.{Step, ended, next_of}
+use Rattle.netlink.specs.Walking.{Goes}
+use Rattle.cursors.specs.Steps.{ended, next_of}
 use Rattle.cursors.specs.Heard.{step_of}
 use Rattle.cursors.specs.Moves.{Stays}
 

@@ -1,14 +1,12 @@
 -- One call of each cursor. Assumes nothing.
-use Rattle.std.specs.Prelude.{◌≡◌, ℕ, length, Ok, Err, Option, Result}
+use Rattle.std.specs.Prelude.{◌≡◌, ℕ, length, Option, Result}
 use Rattle.model.specs.Numbers.{Bytes}
 use Rattle.model.specs.Book.{Meaning}
 use Rattle.model.specs.Reading.{read_option, read_action, read_attribute}
 use Rattle.model.specs.declared.fault.Fault.{Fault}
-use Rattle.netlink.specs.declared.buffer.NlaBuffer.{NlaBuffer}
 use Rattle.netlink.specs.declared.walker.NlasIterator.{NlasIterator}
 use Rattle.netlink.specs.Walking.{ahead}
 use Rattle.tc_filter.specs.declared.cls_u32.TcFilterU32Option.{TcFilterU32Option}
-use Rattle.tc_filter.specs.Kinds as kinds
 use Rattle.tc_filter.specs.Kinds.{action_reads}
 use Rattle.tc_filter.specs.declared.action.TcAction.{TcAction}
 use Rattle.tc_filter.specs.declared.action_attribute.TcActionAttribute.{TcActionAttribute}
@@ -34,10 +32,6 @@ AttributeStep s r t = ((m : Meaning) (k : Bytes) → given (attribute_heard m k)
 -- and the book's judgement of the next option
 abbrev pub JudgedStep : Meaning → (kind_text : Bytes) → NlasIterator → Option (Result JudgedOption Fault) → NlasIterator → Type 0
 JudgedStep m k s r t = (given judged_heard r (ahead t) ≡ step_of (judged_as m k) s) × Stays s t
-
-abbrev pub InMemory : Result NlaBuffer Fault → Type 0
-InMemory (Ok a) = kinds.InMemory a
-InMemory (Err f) = Unit {0}
 
 abbrev pub left_of : NlasIterator → ℕ
 left_of s = length s.rest.now

@@ -32,6 +32,7 @@ pub struct Parts<'a, T> {
     ghost inside: { walk.end < 2 ^ 64 },
 }
 
+// Written out, since no derive goes with a ghost field beside a type parameter.
 impl<'a, T> Clone for Parts<'a, T> {
     ghost is_clone = { λ x y. y ≡ x };
 
@@ -66,6 +67,7 @@ impl<'a, T: Part<'a>> Iterator for Parts<'a, T> {
     ghost remaining = { λ s. at_most (left_of s.walk) };
 
     fn next(&mut self) -> Option<Result<T, Fault>> {
+        // `map(T::of)` is not stated yet where the bound names a lifetime, and of a closure in generic code nothing is known.
         let found = self.walk.next()?;
         Some(T::of(found))
     }
