@@ -22,6 +22,7 @@ pub struct JudgedOption<'a> {
 }
 
 /// A cursor over the options of an action: each as its book judges it under the action's kind, or its fault.
+// It is no `Parts`: a part is read from its attribute alone, and this one by a book and a kind, which the cursor holds.
 #[derive_where(Clone, Copy)]
 pub struct ActionOptions<'a, 'b, 'k, B> {
     walk: NlasIterator<'a>,

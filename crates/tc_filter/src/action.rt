@@ -22,6 +22,7 @@ pub struct TcAction<'a> {
 }
 
 /// The kind texts that were seen in an action so far.
+// Three states: that there are several may be told only when every text behind them was looked at too.
 #[derive(Clone, Copy)]
 enum Seen<'a> {
     Nothing,
