@@ -30,19 +30,6 @@ enum Seen<'a> {
     Several,
 }
 
-/// What is wrong with an action as a whole.
-fn action_fault(cause: Cause, place: usize) -> Fault
-    ensures { result ≡ record { cause = cause; place = place; layer = Layer.Action; need = 0; number = 0 } }
-{
-    Fault {
-        cause,
-        place,
-        layer: Layer::Action,
-        need: 0,
-        number: 0,
-    }
-}
-
 /// The kind text of an action. Every head and every kind text is looked at first, and then that there is just one.
 fn kind_of<'a>(action: &NlaBuffer<'a>) -> Result<&'a str, Fault>
     ensures { kind_heard result ≡ kind_found action.now }
@@ -62,9 +49,9 @@ fn kind_of<'a>(action: &NlaBuffer<'a>) -> Result<&'a str, Fault>
         }
     }
     match seen {
-        Seen::Nothing => Err(action_fault(Cause::NoKind, action.place)),
+        Seen::Nothing => Err(Fault::new(Cause::NoKind, action.place, Layer::Action)),
         Seen::One(text) => Ok(text),
-        Seen::Several => Err(action_fault(Cause::SeveralKinds, action.place)),
+        Seen::Several => Err(Fault::new(Cause::SeveralKinds, action.place, Layer::Action)),
     }
 }
 

@@ -8,7 +8,7 @@ ghost use Rattle.tc_filter.specs.ActionAttributes.{attribute_heard, attribute_by
 use netlink::buffer::NlaBuffer;
 use netlink::default_nla::DefaultNla;
 use payload::error::DecodeError;
-use payload::parsers::parse_u32;
+use payload::parsers::parse;
 use payload::text::parse_string;
 
 /// The type of a kind.
@@ -57,14 +57,11 @@ impl<'a> TcActionAttribute<'a> {
         match buf.kind() {
             TCA_ACT_KIND => Ok(TcActionAttribute::Kind(parse_string(buf.value)?)),
             TCA_ACT_OPTIONS => Ok(TcActionAttribute::Options(*buf)),
-            TCA_ACT_INDEX => Ok(TcActionAttribute::Index(parse_u32(buf.value)?)),
+            TCA_ACT_INDEX => Ok(TcActionAttribute::Index(parse::<u32, 4>(buf.value)?)),
             TCA_ACT_STATS => Ok(TcActionAttribute::Stats(buf.value)),
             TCA_ACT_COOKIE => Ok(TcActionAttribute::Cookie(buf.value)),
-            TCA_ACT_IN_HW_COUNT => Ok(TcActionAttribute::InHwCount(parse_u32(buf.value)?)),
-            _ => Ok(TcActionAttribute::Other(DefaultNla {
-                word: buf.word,
-                value: buf.value,
-            })),
+            TCA_ACT_IN_HW_COUNT => Ok(TcActionAttribute::InHwCount(parse::<u32, 4>(buf.value)?)),
+            _ => Ok(TcActionAttribute::Other(DefaultNla::from(*buf))),
         }
     }
 }

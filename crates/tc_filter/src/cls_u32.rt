@@ -8,7 +8,7 @@ ghost use Rattle.model.specs.Attributes.{type_of};
 use netlink::buffer::NlaBuffer;
 use netlink::default_nla::DefaultNla;
 use payload::error::DecodeError;
-use payload::parsers::parse_u32;
+use payload::parsers::parse;
 use tc_records::header::TcHandle;
 use tc_records::selector::TcU32Selector;
 
@@ -81,23 +81,20 @@ impl<'a> TcFilterU32Option<'a> {
         ensures part { IfOk result (PartOf buf.now) }
     {
         match buf.kind() {
-            TCA_U32_CLASSID => Ok(TcFilterU32Option::ClassId(TcHandle::from_number(parse_u32(
+            TCA_U32_CLASSID => Ok(TcFilterU32Option::ClassId(TcHandle::from(parse::<u32, 4>(
                 buf.value,
             )?))),
-            TCA_U32_HASH => Ok(TcFilterU32Option::Hash(parse_u32(buf.value)?)),
-            TCA_U32_LINK => Ok(TcFilterU32Option::Link(parse_u32(buf.value)?)),
-            TCA_U32_DIVISOR => Ok(TcFilterU32Option::Divisor(parse_u32(buf.value)?)),
+            TCA_U32_HASH => Ok(TcFilterU32Option::Hash(parse::<u32, 4>(buf.value)?)),
+            TCA_U32_LINK => Ok(TcFilterU32Option::Link(parse::<u32, 4>(buf.value)?)),
+            TCA_U32_DIVISOR => Ok(TcFilterU32Option::Divisor(parse::<u32, 4>(buf.value)?)),
             TCA_U32_SEL => Ok(TcFilterU32Option::Selector(TcU32Selector::parse(buf.value)?)),
             TCA_U32_POLICE => Ok(TcFilterU32Option::Police(buf.value)),
             TCA_U32_ACT => Ok(TcFilterU32Option::Action(*buf)),
             TCA_U32_INDEV => Ok(TcFilterU32Option::Indev(buf.value)),
             TCA_U32_PCNT => Ok(TcFilterU32Option::Pnct(buf.value)),
             TCA_U32_MARK => Ok(TcFilterU32Option::Mark(buf.value)),
-            TCA_U32_FLAGS => Ok(TcFilterU32Option::Flags(parse_u32(buf.value)?)),
-            _ => Ok(TcFilterU32Option::Other(DefaultNla {
-                word: buf.word,
-                value: buf.value,
-            })),
+            TCA_U32_FLAGS => Ok(TcFilterU32Option::Flags(parse::<u32, 4>(buf.value)?)),
+            _ => Ok(TcFilterU32Option::Other(DefaultNla::from(*buf))),
         }
     }
 }

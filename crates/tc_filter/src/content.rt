@@ -54,7 +54,7 @@ pub fn option_content<'a>(option: TcFilterU32Option<'a>) -> Content<'a>
     match option {
         TcFilterU32Option::ClassId(handle) => Content::Leaf(Leaf::Number(
             TCA_U32_CLASSID,
-            handle.number(),
+            u32::from(handle),
         )),
         TcFilterU32Option::Hash(number) => Content::Leaf(Leaf::Number(TCA_U32_HASH, number)),
         TcFilterU32Option::Link(number) => Content::Leaf(Leaf::Number(TCA_U32_LINK, number)),

@@ -4,6 +4,4 @@ use Rattle.tc_filter.proofs.ByType.{option-as_read}
 use Rattle.tc_filter.proofs.cls_u32.TcFilterU32Option.parse.Goals as goal
 
 pub returns-in_default-clause-reads : goal.returns-in_default-clause-reads
-returns-in_default-clause-reads c =
-    let b = c.args.buf.now in
-    λ m. option-as_read m b (Ok (Other (record { word = b.word; value = b.value }))) (search rules)
+returns-in_default-clause-reads c = λ m. option-as_read m c.args.buf.now (Ok (Other c.from-in_default.result)) (search rules)
