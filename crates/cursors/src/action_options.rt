@@ -9,9 +9,10 @@ ghost use Rattle.cursors.specs.Heard.{judged_heard, judged_as, found_reads};
 ghost use Rattle.cursors.specs.Moves.{JudgedStep, left_of};
 ghost use Rattle.std.specs.Iterator.{at_most};
 
-use model::fault::{Cause, Fault, Layer};
+use model::fault::{Fault, Layer};
 use netlink::buffer::NlaBuffer;
 use netlink::walker::NlasIterator;
+use payload::error::ErrorContext;
 use tc::book::{Book, Judged};
 
 /// An option of an action that its book accepts: as it stands, and the word and payload length that are written of it.
@@ -39,16 +40,10 @@ fn judged_of<'a, B: Book>(
     ensures { judged_heard result ≡ found_reads (judged_as (B.Book.meaning book.now) kind.now) found.entry }
 {
     let nla = found?;
-    match book.judge(kind, nla.word, nla.value) {
-        Ok(judged) => Ok(JudgedOption { nla, judged }),
-        Err(refusal) => Err(Fault {
-            cause: Cause::RefusedByBook,
-            place: nla.place,
-            layer: Layer::ActionOption,
-            need: refusal.need,
-            number: refusal.number,
-        }),
-    }
+    let judged = book
+        .judge(kind, nla.word, nla.value)
+        .context(nla.place, Layer::ActionOption)?;
+    Ok(JudgedOption { nla, judged })
 }
 
 impl<'a, 'b, 'k, B: Book> ActionOptions<'a, 'b, 'k, B> {
