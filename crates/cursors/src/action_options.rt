@@ -9,9 +9,10 @@ ghost use Rattle.cursors.specs.Heard.{judged_heard, judged_as, found_reads};
 ghost use Rattle.cursors.specs.Moves.{JudgedStep, left_of};
 ghost use Rattle.std.specs.Iterator.{at_most};
 
-use model::fault::{Cause, Fault, Layer};
+use model::fault::{Fault, Layer};
 use netlink::buffer::NlaBuffer;
 use netlink::walker::NlasIterator;
+use payload::error::ErrorContext;
 use tc::book::{Book, Judged};
 
 /// An option of an action that its book accepts: as it stands, and the word and payload length that are written of it.
@@ -22,20 +23,12 @@ pub struct JudgedOption<'a> {
 }
 
 /// A cursor over the options of an action: each as its book judges it under the action's kind, or its fault.
+// It is no `Parts`: a part is read from its attribute alone, and this one by a book and a kind, which the cursor holds.
+#[derive_where(Clone, Copy)]
 pub struct ActionOptions<'a, 'b, 'k, B> {
     walk: NlasIterator<'a>,
     book: &'b B,
     kind: &'k [u8],
-}
-
-impl<'a, 'b, 'k, B> Drop for ActionOptions<'a, 'b, 'k, B> {
-    fn drop(self) {
-        let ActionOptions {
-            walk: _,
-            book: _,
-            kind: _,
-        } = self;
-    }
 }
 
 /// What the book says of an attribute that a walk found.
@@ -47,16 +40,10 @@ fn judged_of<'a, B: Book>(
     ensures { judged_heard result ≡ found_reads (judged_as (B.Book.meaning book.now) kind.now) found.entry }
 {
     let nla = found?;
-    match book.judge(kind, nla.word, nla.value) {
-        Ok(judged) => Ok(JudgedOption { nla, judged }),
-        Err(refusal) => Err(Fault {
-            cause: Cause::RefusedByBook,
-            place: nla.place,
-            layer: Layer::ActionOption,
-            need: refusal.need,
-            number: refusal.number,
-        }),
-    }
+    let judged = book
+        .judge(kind, nla.word, nla.value)
+        .context(nla.place, Layer::ActionOption)?;
+    Ok(JudgedOption { nla, judged })
 }
 
 impl<'a, 'b, 'k, B: Book> ActionOptions<'a, 'b, 'k, B> {
@@ -94,9 +81,8 @@ impl<'a, 'b, 'k, B: Book> Iterator for ActionOptions<'a, 'b, 'k, B> {
     ghost remaining = { λ s. at_most (left_of s.walk) };
 
     fn next(&mut self) -> Option<Result<JudgedOption<'a>, Fault>> {
-        match self.walk.next() {
-            Some(found) => Some(judged_of(self.book, self.kind, found)),
-            None => None,
-        }
+        self.walk
+            .next()
+            .map(|found| judged_of(self.book, self.kind, found))
     }
 }
