@@ -5,7 +5,6 @@ mod fields;
 mod judging;
 mod listing;
 mod rewriting;
-mod sample;
 
 use fields::field_lines;
 use judging::judgements;
@@ -13,6 +12,7 @@ use listing::listing;
 use model::fault::Layer;
 use netlink::walker::NlasIterator;
 use rewriting::{Unwritten, rewritten};
+use sample::entry::{WITH_ZERO, WITHOUT_ZERO, entry};
 use std::io;
 
 /// Shows every attribute of a filter, and what the one writer makes of them.
@@ -89,8 +89,8 @@ fn main(rt: HostRuntime) -> io::Result<()> {
         "A heat meter's mirror entry in two spellings: its kind text with and without a zero at the end."
     )?;
     println!(rt; "")?;
-    let with_zero = sample::entry(rt.alloc(), sample::WITH_ZERO)?;
-    let without_zero = sample::entry(rt.alloc(), sample::WITHOUT_ZERO)?;
+    let with_zero = entry(rt.alloc(), WITH_ZERO)?;
+    let without_zero = entry(rt.alloc(), WITHOUT_ZERO)?;
     show(&rt, "With the zero", with_zero.as_slice())?;
     show(&rt, "Without the zero", without_zero.as_slice())?;
     compare(&rt, with_zero.as_slice(), without_zero.as_slice())?;
