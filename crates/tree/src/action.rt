@@ -72,7 +72,7 @@ impl<'a> fmt::Display for Action<'a> {
         let kind = self.0.kind;
         let text = Quoted(kind);
         writeln!(f, "  action {tab} {text}")?;
-        for attribute in Attributes::new(&self.0).filter_map(|found| found.ok()) {
+        for attribute in Attributes::new(&self.0).filter_map(Result::ok) {
             Attribute { kind, attribute }.fmt(f)?;
         }
         Ok(())

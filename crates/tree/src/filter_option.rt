@@ -15,7 +15,7 @@ struct Actions<'a>(NlaBuffer<'a>);
 impl<'a> fmt::Display for Actions<'a> {
     fn fmt<W: fmt::Write>(&self, f: &mut fmt::Formatter<W>) -> fmt::Result {
         f.write_str("actions\n")?;
-        for action in cursors::actions::Actions::new(&self.0).filter_map(|found| found.ok()) {
+        for action in cursors::actions::Actions::new(&self.0).filter_map(Result::ok) {
             Action(action).fmt(f)?;
         }
         Ok(())

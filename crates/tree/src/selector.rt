@@ -53,7 +53,7 @@ impl<'a> fmt::Display for Selector<'a> {
     fn fmt<W: fmt::Write>(&self, f: &mut fmt::Formatter<W>) -> fmt::Result {
         self.write_numbers(f)?;
         let keys = self.0.keys.chunks_exact(16);
-        for key in keys.filter_map(|bytes| TcU32Key::read(bytes)) {
+        for key in keys.filter_map(TcU32Key::read) {
             Match(key).fmt(f)?;
         }
         Ok(())

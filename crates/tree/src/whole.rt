@@ -31,7 +31,7 @@ impl<'a> Reading<'a> {
 
     /// Writes a line for each attribute.
     fn write_tree<W: fmt::Write>(&self, f: &mut fmt::Formatter<W>) -> fmt::Result {
-        for option in Options::new(self.filter).filter_map(|found| found.ok()) {
+        for option in Options::new(self.filter).filter_map(Result::ok) {
             FilterOption(option).fmt(f)?;
         }
         Ok(())

@@ -5,31 +5,17 @@ use netlink::traits::{Emitable, Parseable};
 use netlink::walker::NlasIterator;
 use payload::error::{DecodeError, ErrorContext};
 use std::alloc::{AllocError, Global};
+use thiserror::Error;
 
 /// Why a filter was not written again.
-#[derive(Drop)]
+#[derive(Debug, Drop, Error)]
 pub(crate) enum Unwritten {
-    NoMemory,
-    Fault(Fault),
-    Refused(Cause),
-}
-
-impl From<AllocError> for Unwritten {
-    fn from(_error: AllocError) -> Unwritten {
-        Unwritten::NoMemory
-    }
-}
-
-impl From<Fault> for Unwritten {
-    fn from(fault: Fault) -> Unwritten {
-        Unwritten::Fault(fault)
-    }
-}
-
-impl From<Cause> for Unwritten {
-    fn from(cause: Cause) -> Unwritten {
-        Unwritten::Refused(cause)
-    }
+    #[error("no memory")]
+    NoMemory(#[from(alloc)] AllocError),
+    #[error("{}", .0.cause)]
+    Fault(#[from] Fault),
+    #[error("{0}")]
+    Refused(#[from] Cause),
 }
 
 /// Each option as a default attribute, one after another: head, payload and zero padding.
