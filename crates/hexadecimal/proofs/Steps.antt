@@ -1,6 +1,6 @@
 -- Steps of the loops, and the law between the two directions.
-use Rattle.std.proofs.Common.{◌≡◌, ℕ, ◌+◌, ◌-◌, ◌*◌, ◌/◌, ◌%◌, ◌<◌, ◌≤◌, Bool, true, false, cond, List, [], ◌∷◌, ◌++◌, length, get_or, take, drop, Some, None, Option, sym, refl, ap, ◌∙◌, append_assoc, append-nil, arith}
-use Rattle.std.proofs.lemmas.List.{at_drop_more, at_drop_all, take_rest}
+use Rattle.std.proofs.Common.{◌≡◌, ℕ, ◌+◌, ◌-◌, ◌*◌, ◌/◌, ◌%◌, ◌<◌, ◌≤◌, Bool, true, false, cond, List, [], ◌∷◌, ◌++◌, length, get_or, take, drop, Some, None, Option, sym, refl, ap, ◌∙◌, append_assoc, append-nil, arith, min}
+use Rattle.std.proofs.lemmas.List.{at_drop_more, at_drop_all}
 use Rattle.std.proofs.lemmas.Bool.Decides.{nat_tests}
 use Rattle.hexadecimal.specs.Hex.{digit, value_of, joined, byte_of, onto, decode, encode, behind}
 use Rattle.hexadecimal.specs.Laws.{Octets}
@@ -30,20 +30,43 @@ decode-encode (b ∷ bs) o =
     ap (λ (x : Option ℕ). onto x (decode (encode bs))) (byte_again b o.0)
     ∙ ap (λ (x : Option (List ℕ)). onto (Some b) x) (decode-encode bs o.1)
 
-two_in_front : (xs : List ℕ) → 2 ≤ length xs → xs ≡ get_or xs 0 0 ∷ (get_or xs 1 0 ∷ drop 2 xs)
-two_in_front [] h = absurd (omega arith)
-two_in_front (x ∷ []) h = absurd (omega arith)
-two_in_front (x ∷ (y ∷ xs)) h = refl
+two_in_front : (x rest : List ℕ) → length x ≡ 2 → decode (x ++ rest) ≡ onto (byte_of (get_or x 0 0) (get_or x 1 0)) (decode rest)
+two_in_front [] rest h = absurd (omega (arith, h))
+two_in_front (a ∷ []) rest h = absurd (omega (arith, h))
+two_in_front (a ∷ (b ∷ [])) rest h = refl
+two_in_front (a ∷ (b ∷ (c ∷ xs))) rest h = absurd (omega (arith, h))
 
-pub decode_step : (xs held more : List ℕ) (b : ℕ) (whole : Option (List ℕ)) → 2 ≤ length xs →
-    Some b ≡ byte_of (get_or xs 0 0) (get_or xs 1 0) → more ≡ held ++ (b ∷ []) → behind held (decode xs) ≡ whole →
-    behind more (decode (take (length xs - 2) (drop 2 xs))) ≡ whole
-decode_step xs held more b whole h e m inv =
-    ap (λ (x : List ℕ). behind more (decode x)) (take_rest xs 2)
-    ∙ (ap (λ (x : List ℕ). behind x (decode (drop 2 xs))) m
-    ∙ (behind_more held b (decode (drop 2 xs))
-    ∙ (ap (λ (x : Option ℕ). behind held (onto x (decode (drop 2 xs)))) e
-    ∙ (sym (ap (λ (x : List ℕ). behind held (decode x)) (two_in_front xs h)) ∙ inv))))
+pub decode_step : (s x t held more : List ℕ) (b : ℕ) (whole : Option (List ℕ)) → length x ≡ 2 → s ≡ x ++ t →
+    Some b ≡ byte_of (get_or x 0 0) (get_or x 1 0) → more ≡ held ++ (b ∷ []) → behind held (decode s) ≡ whole →
+    behind more (decode t) ≡ whole
+decode_step s x t held more b whole h p e m inv =
+    ap (λ (y : List ℕ). behind y (decode t)) m
+    ∙ (behind_more held b (decode t)
+    ∙ (ap (λ (y : Option ℕ). behind held (onto y (decode t))) e
+    ∙ (sym (ap (behind held) (ap decode p ∙ two_in_front x t h)) ∙ inv)))
+
+pub decode_stop : (s x t held : List ℕ) (whole : Option (List ℕ)) → length x ≡ 2 → s ≡ x ++ t →
+    None ≡ byte_of (get_or x 0 0) (get_or x 1 0) → behind held (decode s) ≡ whole → whole ≡ None
+decode_stop s x t held whole h p e inv =
+    sym inv
+    ∙ (ap (behind held) (ap decode p ∙ two_in_front x t h)
+    ∙ sym (ap (λ (y : Option ℕ). behind held (onto y (decode t))) e))
+
+one_left : (s : List ℕ) → length s ≡ 1 → decode s ≡ None
+one_left [] h = absurd (omega (arith, h))
+one_left (a ∷ []) h = refl
+one_left (a ∷ (b ∷ xs)) h = absurd (omega (arith, h))
+
+-- the last chunk of an odd number of characters is one alone
+pub decode_odd : (s x held : List ℕ) (size : ℕ) (whole : Option (List ℕ)) → size ≡ 2 → length x < 2 →
+    length x ≡ min size (length s) → 0 < length s → behind held (decode s) ≡ whole → whole ≡ None
+decode_odd s x held size whole e h m p inv =
+    let one : length s ≡ 1 = omega (arith, e, h, m, p) in
+    sym inv ∙ ap (behind held) (one_left s one)
+
+pub decode_end : (s held : List ℕ) (whole : Option (List ℕ)) → length s ≡ 0 → behind held (decode s) ≡ whole → whole ≡ Some held
+decode_end [] held whole h inv = sym inv ∙ ap Some (append-nil held)
+decode_end (a ∷ xs) held whole h inv = absurd (omega (arith, h))
 
 pub encode_step : (xs old one two whole e₁ e₂ : List ℕ) (i : ℕ) → i < length xs →
     e₁ ≡ digit (get_or xs i 0 / 16) ∷ [] → e₂ ≡ digit (get_or xs i 0 % 16) ∷ [] → one ≡ old ++ e₁ → two ≡ one ++ e₂ →
