@@ -6,6 +6,7 @@ ghost use Rattle.hexadecimal.specs.Hex.{digit, value_of};
 pub fn digit_value(character: u8) -> Option<u8>
     ensures { result ≡ value_of character }
 {
+    // No plainer by `char::to_digit`, which answers a `u32` that must be cast.
     match character {
         b'0'..=b'9' => Some(character - b'0'),
         b'a'..=b'f' => Some(character - b'a' + 10),

@@ -20,5 +20,4 @@ pub fn encode(bytes: &[u8], text: &mut String) -> Result<(), AllocError>
 /// What is encoded is decoded to the bytes that it was.
 pub fn reads_again()
     ensures { ReadsAgain }
-{
-}
+{}
