@@ -1,4 +1,4 @@
-use Rattle.std.proofs.Common.{rules, not, sym, ap, ◌∙◌, ◌≡◌}
+use Rattle.std.proofs.Common.{rules, not, sym, ◌∙◌, ◌≡◌}
 use borrow.Author.Tests.{tests}
 use Rattle.std.proofs.lemmas.Iterator.{YieldsList-from_slice}
 use Rattle.std.proofs.lemmas.Iterator.Search.{position_from_yields_List}
