@@ -1,6 +1,7 @@
 // An option of a filter, and its actions below it.
 use crate::action::Action;
 use crate::selector::Selector;
+use cursors::actions::Actions;
 use netlink::buffer::NlaBuffer;
 use shown::attribute::AsItStands;
 use shown::bytes::Bytes;
@@ -10,12 +11,12 @@ use tc_filter::cls_u32::TcFilterU32Option;
 
 /// A list of actions.
 #[derive(Clone, Copy)]
-struct Actions<'a>(NlaBuffer<'a>);
+struct ActionList<'a>(NlaBuffer<'a>);
 
-impl<'a> fmt::Display for Actions<'a> {
+impl<'a> fmt::Display for ActionList<'a> {
     fn fmt<W: fmt::Write>(&self, f: &mut fmt::Formatter<W>) -> fmt::Result {
         f.write_str("actions\n")?;
-        for action in cursors::actions::Actions::new(&self.0).filter_map(Result::ok) {
+        for action in Actions::new(&self.0).filter_map(Result::ok) {
             Action(action).fmt(f)?;
         }
         Ok(())
@@ -57,7 +58,7 @@ impl<'a> fmt::Display for FilterOption<'a> {
             TcFilterU32Option::Divisor(number) => Named("divisor", number).fmt(f),
             TcFilterU32Option::Selector(selector) => Selector(selector).fmt(f),
             TcFilterU32Option::Police(value) => Named("police", Bytes(value)).fmt(f),
-            TcFilterU32Option::Action(actions) => Actions(actions).fmt(f),
+            TcFilterU32Option::Action(actions) => ActionList(actions).fmt(f),
             TcFilterU32Option::Indev(value) => Named("indev", Bytes(value)).fmt(f),
             TcFilterU32Option::Pnct(value) => Named("pcnt", Bytes(value)).fmt(f),
             TcFilterU32Option::Mark(value) => Named("mark", Bytes(value)).fmt(f),
