@@ -24,3 +24,4 @@ pub mod CauseNumbers
 pub mod Causes
 pub mod WriteRefusals
 pub mod PageRefusals
+pub mod Fields

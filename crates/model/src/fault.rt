@@ -6,85 +6,63 @@ ghost use Rattle.model.specs.Faults.{cause_number, layer_number};
 #[derive(Clone, Copy, PartialEq, Eq, Debug)]
 pub enum Cause {
     /// A filter, or the memory of a new page, has more than 65,531 bytes.
-    TooLong,
+    TooLong = 1,
     /// The page's memory has another length than at its making.
-    OtherMemory,
+    OtherMemory = 2,
     /// A nest is opened with a type above 16,383.
-    TypeTooLarge,
+    TypeTooLarge = 3,
     /// A put or an open, or its type, does not belong at this level of the page.
-    NotAtThisLevel,
+    NotAtThisLevel = 4,
     /// Close or strike finds no nest open.
-    NoOpenNest,
+    NoOpenNest = 5,
     /// Fewer than 4 bytes remain where an attribute must begin.
-    HeadCutOff,
+    HeadCutOff = 6,
     /// An attribute's length field exceeds the bytes remaining.
-    LengthBeyondEnd,
+    LengthBeyondEnd = 7,
     /// An attribute's length field is below 4.
-    LengthBelowHead,
+    LengthBelowHead = 8,
     /// A kind text is not UTF-8.
-    KindNotUtf8,
+    KindNotUtf8 = 9,
     /// An action has no kind.
-    NoKind,
+    NoKind = 10,
     /// An action has more than one kind.
-    SeveralKinds,
+    SeveralKinds = 11,
     /// A payload has not the exact length wanted.
-    WrongLength,
+    WrongLength = 12,
     /// A payload is shorter than its record or selector.
-    TooShort,
+    TooShort = 13,
     /// The book refuses an action option.
-    RefusedByBook,
+    RefusedByBook = 14,
     /// A written-out payload has more than 65,531 bytes.
-    PayloadTooLong,
+    PayloadTooLong = 15,
     /// The output or the page has fewer bytes free than the call needs.
-    NoRoom,
+    NoRoom = 16,
 }
 
-impl Cause {
-    /// The cause's number, from 1 to 16.
-    pub fn number(self) -> u8
-        ensures { result ≡ cause_number self }
-    {
-        match self {
-            Cause::TooLong => 1,
-            Cause::OtherMemory => 2,
-            Cause::TypeTooLarge => 3,
-            Cause::NotAtThisLevel => 4,
-            Cause::NoOpenNest => 5,
-            Cause::HeadCutOff => 6,
-            Cause::LengthBeyondEnd => 7,
-            Cause::LengthBelowHead => 8,
-            Cause::KindNotUtf8 => 9,
-            Cause::NoKind => 10,
-            Cause::SeveralKinds => 11,
-            Cause::WrongLength => 12,
-            Cause::TooShort => 13,
-            Cause::RefusedByBook => 14,
-            Cause::PayloadTooLong => 15,
-            Cause::NoRoom => 16,
-        }
+/// The cause's number, from 1 to 16.
+impl From<Cause> for u8 {
+    ghost from_gives = { λ c r. r ≡ cause_number c };
+
+    fn from(cause: Cause) -> u8 {
+        cause as u8
     }
 }
 
 /// In which kind of attribute a fault lies.
 #[derive(Clone, Copy, PartialEq, Eq, Debug)]
 pub enum Layer {
-    FilterOption,
-    Action,
-    ActionAttribute,
-    ActionOption,
+    FilterOption = 1,
+    Action = 2,
+    ActionAttribute = 3,
+    ActionOption = 4,
 }
 
-impl Layer {
-    /// The layer's number, from 1 to 4.
-    pub fn number(self) -> u8
-        ensures { result ≡ layer_number self }
-    {
-        match self {
-            Layer::FilterOption => 1,
-            Layer::Action => 2,
-            Layer::ActionAttribute => 3,
-            Layer::ActionOption => 4,
-        }
+/// The layer's number, from 1 to 4.
+impl From<Layer> for u8 {
+    ghost from_gives = { λ l r. r ≡ layer_number l };
+
+    fn from(layer: Layer) -> u8 {
+        layer as u8
     }
 }
 
@@ -99,4 +77,19 @@ pub struct Fault {
     pub need: usize,
     /// The number of the book's refusal; else 0.
     pub number: u8,
+}
+
+impl Fault {
+    /// A fault with no need and no number of a book's.
+    pub fn new(cause: Cause, place: usize, layer: Layer) -> Fault
+        ensures { result ≡ record { cause = cause; place = place; layer = layer; need = 0; number = 0 } }
+    {
+        Fault {
+            cause,
+            place,
+            layer,
+            need: 0,
+            number: 0,
+        }
+    }
 }

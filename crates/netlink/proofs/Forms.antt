@@ -1,29 +1,16 @@
 -- The form that an attribute is written in, its size, and the buffer that it is written into. Assumes nothing.
-use Rattle.std.proofs.Common.{◌≡◌, ℕ, ◌+◌, ◌-◌, ◌≤◌, Bool, true, false, cond, ltb, [], ◌∷◌, ◌++◌, length, take, drop, replicate, Ok, Err, Result, sym, refl, ap, ◌∙◌, zero-add, arith}
-use Rattle.std.proofs.lemmas.Bool.{le-ltb, ltb-false, cond-false}
+use Rattle.std.proofs.Common.{◌≡◌, ℕ, ◌+◌, ◌-◌, ◌≤◌, false, ltb, [], ◌∷◌, ◌++◌, length, take, drop, replicate, Ok, Err, sym, ap, ◌∙◌, zero-add, arith}
+use Rattle.std.proofs.lemmas.Bool.{le-ltb, cond-false}
 use Rattle.model.specs.Numbers.{Bytes}
 use Rattle.model.specs.Attributes.{rounded, attribute, head, encode}
 use Rattle.model.specs.Page.{over}
 use Rattle.model.proofs.Walk.{length-encode}
-use Rattle.netlink.specs.Emission.{attribute_form, form_length, emission, buffer_after}
+use Rattle.netlink.specs.Emission.{attribute_form, buffer_after}
 use Rattle.netlink.proofs.Overwrites.{three_over, zeros}
 
 module _ (w : ℕ) (x : Bytes) where
   pub short_form : length x ≤ 65531 → attribute_form w x ≡ Ok (encode (attribute w x))
   short_form h = cond-false (ltb 65531 (length x)) (Err 15) (Ok (encode (attribute w x))) (le-ltb 65531 (length x) h)
-
-  size_by : (t : Bool) (n : ℕ) → Ok n ≡ form_length (cond t (Err 15) (Ok (encode (attribute w x)))) → (t ≡ false) × (n ≡ length (encode (attribute w x)))
-  size_by true n e = let z : ◌≡◌ {A = ℕ} 0 1 = cc in absurd (omega arith)
-  size_by false n e = (refl, cc)
-
-  -- what a size tells of the payload
-  pub size_tells : (n : ℕ) → Ok n ≡ form_length (attribute_form w x) → (length x ≤ 65531) × (n ≡ rounded (4 + length x))
-  size_tells n e =
-      let s = size_by (ltb 65531 (length x)) n e in
-      (ltb-false 65531 (length x) s.0, s.1 ∙ length-encode (attribute w x))
-
-  pub size_is : (n : ℕ) → length x ≤ 65531 → n ≡ rounded (4 + length x) → Ok n ≡ form_length (attribute_form w x)
-  size_is n h e = ap {B = Result ℕ ℕ} Ok (e ∙ sym (length-encode (attribute w x))) ∙ sym (ap form_length (short_form h))
 
   module _ (n : ℕ) (old : Bytes) (short : length x ≤ 65531) (size : n ≡ rounded (4 + length x)) (room : n ≤ length old) where
     whole : length (encode (attribute w x)) ≡ n
@@ -31,12 +18,6 @@ module _ (w : ℕ) (x : Bytes) where
 
     fits : ltb (length old) (length (encode (attribute w x))) ≡ false
     fits = le-ltb (length old) (length (encode (attribute w x))) (let e : length (encode (attribute w x)) ≡ n = whole in omega arith)
-
-    pub answers : Ok n ≡ emission (length old) (attribute_form w x)
-    answers =
-        sym (ap (emission (length old)) (short_form short)
-        ∙ cond-false (ltb (length old) (length (encode (attribute w x)))) (Err 16) (Ok (length (encode (attribute w x)))) fits
-        ∙ ap {B = Result ℕ ℕ} Ok whole)
 
     -- head, payload and zeros, written one after another
     pub leaves : (h o₁ o₂ o₃ : Bytes) (i j k : ℕ) → h ≡ head (4 + length x) w → o₁ ≡ over old 0 h → o₂ ≡ over o₁ i x → o₃ ≡ over o₂ j (take {A = ℕ} (k - 0) (0 ∷ 0 ∷ 0 ∷ [])) →

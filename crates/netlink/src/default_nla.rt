@@ -15,14 +15,22 @@ pub struct DefaultNla<'a> {
     pub value: &'a [u8],
 }
 
+impl<'a> From<NlaBuffer<'a>> for DefaultNla<'a> {
+    ghost from_gives = { λ found kept. kept ≡ record { word = found.word; value = found.value } };
+
+    fn from(found: NlaBuffer<'a>) -> Self {
+        DefaultNla {
+            word: found.word,
+            value: found.value,
+        }
+    }
+}
+
 impl<'a> Parseable<NlaBuffer<'a>> for DefaultNla<'a> {
     ghost parsed = { as_it_stands };
 
     fn parse(buf: &NlaBuffer<'a>) -> Result<DefaultNla<'a>, DecodeError> {
-        Ok(DefaultNla {
-            word: buf.word,
-            value: buf.value,
-        })
+        Ok(DefaultNla::from(*buf))
     }
 }
 

@@ -9,9 +9,10 @@ use crate::traits::Emitable;
 use model::fault::Cause;
 
 /// The longest payload that an attribute's length field can tell.
-const LONGEST_PAYLOAD: usize = 65531;
+pub const LONGEST_PAYLOAD: usize = 65531;
 
-const ZEROS: [u8; 3] = [0, 0, 0];
+/// The padding behind a payload, of which so many zeros are written as are needed.
+pub const ZEROS: [u8; 3] = [0, 0, 0];
 
 /// A value that is written as an attribute: it means a word and a payload.
 pub trait Nla {
@@ -35,7 +36,7 @@ pub trait Nla {
 }
 
 /// The four bytes of an attribute's head.
-fn head_bytes(size: u16, word: u16) -> [u8; 4]
+pub fn head(size: u16, word: u16) -> [u8; 4]
     ensures { result ≡ head size word }
 {
     let [a, b] = size.to_le_bytes();
@@ -60,7 +61,7 @@ fn write_attribute<T: Nla>(nla: &T, buffer: &mut [u8], size: usize)
     ensures { buffer.new ≡ buffer_after buffer.old (attribute_form (T.Nla.word nla.now) (T.Nla.payload nla.now)) }
 {
     let end = 4 + nla.value_len();
-    let head = head_bytes(end as u16, nla.kind());
+    let head = head(end as u16, nla.kind());
     overwrite(buffer, 0, &head);
     write_payload(nla, buffer, 4, end - 4);
     overwrite(buffer, end, &ZEROS[0..size - end]);

@@ -1,4 +1,3 @@
-pub mod Addresses
 pub mod Table
 pub mod Lengths
 pub mod TextSteps

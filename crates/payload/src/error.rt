@@ -1,5 +1,6 @@
 // What is wrong with a payload, before it is known where the payload stands.
 ghost use Rattle.std.specs.Prelude.{◌≡◌, ℕ, Result};
+ghost use Rattle.model.specs.declared.fault.Cause.TheVariants.{WrongLength, TooShort};
 ghost use Rattle.model.specs.declared.fault.Layer.{Layer};
 ghost use Rattle.model.specs.declared.fault.Fault.{Fault};
 ghost use Rattle.payload.specs.Errors.{placed};
@@ -12,6 +13,28 @@ pub struct DecodeError {
     pub cause: Cause,
     /// The payload length wanted, or 0.
     pub need: usize,
+}
+
+impl DecodeError {
+    /// A payload has not the exact length wanted.
+    pub fn wrong_length(need: usize) -> DecodeError
+        ensures { result ≡ record { cause = WrongLength; need = need } }
+    {
+        DecodeError {
+            cause: Cause::WrongLength,
+            need,
+        }
+    }
+
+    /// A payload is shorter than what has to stand in it.
+    pub fn too_short(need: usize) -> DecodeError
+        ensures { result ≡ record { cause = TooShort; need = need } }
+    {
+        DecodeError {
+            cause: Cause::TooShort,
+            need,
+        }
+    }
 }
 
 /// Tells an error where it stands, so that `?` can carry it on as a fault.

@@ -5,20 +5,20 @@ ghost use Rattle.payload.specs.Errors.{decoded};
 ghost use Rattle.payload.specs.Payloads.{exactly, address, address_part};
 
 use crate::error::DecodeError;
-use crate::parsers::wrong_length;
 use std::fmt;
 
+// Not `std::net::Ipv4Addr`: contracts above name the octets, and std's `From<u32>` leaves no body of ours to promise their order.
 /// An IPv4 address, by its four bytes as they stand in the payload.
 #[derive(Clone, Copy)]
 pub struct Ipv4Addr {
     pub octets: [u8; 4],
 }
 
-impl Ipv4Addr {
-    /// The address of a number: its highest byte first.
-    pub fn from_number(number: u32) -> Self
-        ensures { result.octets ≡ be_bytes 4 number }
-    {
+/// The address of a number: its highest byte first.
+impl From<u32> for Ipv4Addr {
+    ghost from_gives = { λ number r. r.octets ≡ be_bytes 4 number };
+
+    fn from(number: u32) -> Self {
         Ipv4Addr {
             octets: number.to_be_bytes(),
         }
@@ -42,11 +42,9 @@ pub struct Ipv6Addr<'a> {
 pub fn parse_ipv4_addr(raw: &[u8]) -> Result<Ipv4Addr, DecodeError>
     ensures { decoded result ≡ exactly 4 address raw.now }
 {
-    match raw {
-        [a, b, c, d] => Ok(Ipv4Addr {
-            octets: [*a, *b, *c, *d],
-        }),
-        _ => Err(wrong_length(4)),
+    match raw.as_array::<4>() {
+        Some(octets) => Ok(Ipv4Addr { octets: *octets }),
+        None => Err(DecodeError::wrong_length(4)),
     }
 }
 
@@ -57,6 +55,6 @@ pub fn parse_ipv6_addr<'a>(raw: &'a [u8]) -> Result<Ipv6Addr<'a>, DecodeError>
     if raw.len() == 16 {
         Ok(Ipv6Addr { octets: raw })
     } else {
-        Err(wrong_length(16))
+        Err(DecodeError::wrong_length(16))
     }
 }

@@ -3,5 +3,6 @@
 
 pub mod error;
 pub mod ip;
+pub mod number;
 pub mod parsers;
 pub mod text;

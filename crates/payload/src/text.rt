@@ -1,7 +1,7 @@
 // Text from a payload: UTF-8 by RFC 3629, with one zero at its end or none.
-ghost use Rattle.std.specs.Prelude.{◌≡◌, is_ok, IsUtf8, Decides};
-ghost use Rattle.model.specs.Text.{first_length, low, high, is_text, stripped};
-ghost use Rattle.payload.specs.Texts.{spelt, text_in};
+ghost use Rattle.std.specs.Prelude.{◌≡◌, ℕ, ◌∷◌, List, is_ok, IsUtf8, Decides};
+ghost use Rattle.model.specs.Text.{first_length, low, high, test, is_text, stripped};
+ghost use Rattle.payload.specs.Texts.{spelt, text_in, goes_on};
 
 use crate::error::DecodeError;
 use model::fault::Cause;
@@ -56,33 +56,60 @@ fn highest_second(first: u8) -> u8
     }
 }
 
-/// Whether the bytes are UTF-8. `left` bytes of a character are still to come, the next of them from `from` to `to`.
+/// How far a text has come: how many bytes of a character are still to come, the next of them from `from` to `to`.
+#[derive(Clone, Copy)]
+struct Partway {
+    left: u8,
+    from: u8,
+    to: u8,
+}
+
+impl Partway {
+    /// At the start of a text, where no character is begun.
+    fn start() -> Self
+        ensures { result ≡ record { left = 0; from = 0; to = 0 } }
+    {
+        Partway {
+            left: 0,
+            from: 0,
+            to: 0,
+        }
+    }
+
+    /// One byte further; nothing where the byte cannot stand here.
+    fn after(self, byte: u8) -> Option<Self>
+        ensures { (more : List ℕ) → test self.left self.from self.to (byte ∷ more) ≡ goes_on result more }
+    {
+        if self.left == 0 {
+            let left = length_by(byte).checked_sub(1)?;
+            let from = lowest_second(byte);
+            let to = highest_second(byte);
+            return Some(Partway { left, from, to });
+        }
+        if byte < self.from || self.to < byte {
+            return None;
+        }
+        Some(Partway {
+            left: self.left - 1,
+            from: 0x80,
+            to: 0xBF,
+        })
+    }
+}
+
+/// Whether the bytes are UTF-8.
 pub fn is_utf8(text: &[u8]) -> bool
     ensures test { result ≡ is_text text.now }
     ensures decides { Decides result (IsUtf8 text.now) }
 {
-    let mut left = 0;
-    let mut from = 0;
-    let mut to = 0;
-    for b in text {
-        if left == 0 {
-            let n = length_by(*b);
-            if n == 0 {
-                return false;
-            }
-            left = n - 1;
-            from = lowest_second(*b);
-            to = highest_second(*b);
-        } else {
-            if *b < from || to < *b {
-                return false;
-            }
-            left -= 1;
-            from = 0x80;
-            to = 0xBF;
+    let mut partway = Partway::start();
+    for byte in text {
+        match partway.after(*byte) {
+            Some(further) => partway = further,
+            None => return false,
         }
     }
-    left == 0
+    partway.left == 0
 }
 
 /// The payload without one zero at its end, if it has one.

@@ -21,19 +21,6 @@ struct Found<'a> {
     rest: &'a [u8],
 }
 
-/// A head that is not in order.
-fn head_fault(cause: Cause, place: usize, layer: Layer) -> Fault
-    ensures { result ≡ record { cause = cause; place = place; layer = layer; need = 0; number = 0 } }
-{
-    Fault {
-        cause,
-        place,
-        layer,
-        need: 0,
-        number: 0,
-    }
-}
-
 /// The attribute at the front of `bytes`, whose first byte stands at `place`; nothing where the row ends, or the fault of its head.
 fn front<'a>(bytes: &'a [u8], place: usize, layer: Layer) -> Result<Option<Found<'a>>, Fault>
     ensures { Meets place (layer_number layer) bytes.now result }
@@ -44,10 +31,10 @@ fn front<'a>(bytes: &'a [u8], place: usize, layer: Layer) -> Result<Option<Found
             let length = u16::from_le_bytes([*l0, *l1]) as usize;
             let word = u16::from_le_bytes([*t0, *t1]);
             if length > bytes.len() {
-                return Err(head_fault(Cause::LengthBeyondEnd, place, layer));
+                return Err(Fault::new(Cause::LengthBeyondEnd, place, layer));
             }
             if length < NLA_HEADER_SIZE {
-                return Err(head_fault(Cause::LengthBelowHead, place, layer));
+                return Err(Fault::new(Cause::LengthBelowHead, place, layer));
             }
             let value = &rest[0..length - NLA_HEADER_SIZE];
             let onward = (length + 3) / 4 * 4;
@@ -55,7 +42,7 @@ fn front<'a>(bytes: &'a [u8], place: usize, layer: Layer) -> Result<Option<Found
             let rest = &bytes[from..];
             Ok(Some(Found { word, value, rest }))
         }
-        _ => Err(head_fault(Cause::HeadCutOff, place, layer)),
+        _ => Err(Fault::new(Cause::HeadCutOff, place, layer)),
     }
 }
 
@@ -71,17 +58,15 @@ impl<'a> Iterator for NlasIterator<'a> {
     fn next(&mut self) -> Option<Result<NlaBuffer<'a>, Fault>> {
         let place = self.place();
         match front(self.rest, place, self.layer) {
-            Ok(found) => match found {
-                Some(a) => {
-                    self.rest = a.rest;
-                    Some(Ok(NlaBuffer {
-                        place,
-                        word: a.word,
-                        value: a.value,
-                    }))
-                }
-                None => None,
-            },
+            Ok(Some(found)) => {
+                self.rest = found.rest;
+                Some(Ok(NlaBuffer {
+                    place,
+                    word: found.word,
+                    value: found.value,
+                }))
+            }
+            Ok(None) => None,
             Err(fault) => {
                 self.rest = &[];
                 Some(Err(fault))
