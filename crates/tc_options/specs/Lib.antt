@@ -1,4 +1,5 @@
 pub mod Carried
+pub mod Parms
 pub mod Mirrors
 pub mod Nats
 pub mod TunnelKeys

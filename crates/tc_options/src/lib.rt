@@ -3,4 +3,5 @@
 
 pub mod mirror;
 pub mod nat;
+pub mod parms;
 pub mod tunnel_key;

@@ -1,5 +1,4 @@
 // The options of a tunnel key action.
-ghost use Rattle.std.specs.Prelude.{◌≡◌, length};
 ghost use Rattle.tc_options.specs.TunnelKeys.{tunnel_key_option, tunnel_key_word, tunnel_key_payload};
 
 use netlink::buffer::NlaBuffer;
@@ -9,7 +8,8 @@ use netlink::overwrite::fill;
 use netlink::traits::Parseable;
 use payload::error::DecodeError;
 use payload::ip::{Ipv4Addr, Ipv6Addr, parse_ipv4_addr, parse_ipv6_addr};
-use payload::parsers::{parse_u8, parse_u16_be, parse_u32_be};
+use payload::number::BigEndian;
+use payload::parsers::parse;
 use tc_records::action::Tcf;
 use tc_records::record::{Record, parse_record};
 use tc_records::tunnel_key::TcTunnelKey;
@@ -38,13 +38,6 @@ const TCA_TUNNEL_KEY_NO_CSUM: u16 = 10;
 const TCA_TUNNEL_KEY_ENC_TOS: u16 = 12;
 
 const TCA_TUNNEL_KEY_ENC_TTL: u16 = 13;
-
-/// How many bytes these are.
-fn length_of(bytes: &[u8]) -> usize
-    ensures { result ≡ length bytes.now }
-{
-    bytes.len()
-}
 
 /// An option of a tunnel key action.
 #[derive(Clone, Copy)]
@@ -79,37 +72,34 @@ impl<'a> Parseable<NlaBuffer<'a>> for TcActionTunnelKeyOption<'a> {
     ghost parsed = { tunnel_key_option };
 
     fn parse(buf: &NlaBuffer<'a>) -> Result<TcActionTunnelKeyOption<'a>, DecodeError> {
-        match buf.kind() {
-            TCA_TUNNEL_KEY_TM => Ok(TcActionTunnelKeyOption::Tm(parse_record(buf.value)?)),
-            TCA_TUNNEL_KEY_PARMS => Ok(TcActionTunnelKeyOption::Parms(parse_record(buf.value)?)),
-            TCA_TUNNEL_KEY_ENC_IPV4_SRC => Ok(TcActionTunnelKeyOption::EncIpv4Src(parse_ipv4_addr(
-                buf.value,
-            )?)),
-            TCA_TUNNEL_KEY_ENC_IPV4_DST => Ok(TcActionTunnelKeyOption::EncIpv4Dst(parse_ipv4_addr(
-                buf.value,
-            )?)),
-            TCA_TUNNEL_KEY_ENC_IPV6_SRC => Ok(TcActionTunnelKeyOption::EncIpv6Src(parse_ipv6_addr(
-                buf.value,
-            )?)),
-            TCA_TUNNEL_KEY_ENC_IPV6_DST => Ok(TcActionTunnelKeyOption::EncIpv6Dst(parse_ipv6_addr(
-                buf.value,
-            )?)),
-            TCA_TUNNEL_KEY_ENC_KEY_ID => Ok(TcActionTunnelKeyOption::EncKeyId(parse_u32_be(
-                buf.value,
-            )?)),
-            TCA_TUNNEL_KEY_ENC_DST_PORT => Ok(TcActionTunnelKeyOption::EncDstPort(parse_u16_be(
-                buf.value,
-            )?)),
-            TCA_TUNNEL_KEY_NO_CSUM => Ok(TcActionTunnelKeyOption::NoCsum(
-                parse_u8(buf.value)? != 0,
-            )),
-            TCA_TUNNEL_KEY_ENC_TOS => Ok(TcActionTunnelKeyOption::EncTos(parse_u8(buf.value)?)),
-            TCA_TUNNEL_KEY_ENC_TTL => Ok(TcActionTunnelKeyOption::EncTtl(parse_u8(buf.value)?)),
-            _ => Ok(TcActionTunnelKeyOption::Other(DefaultNla {
-                word: buf.word,
-                value: buf.value,
-            })),
-        }
+        Ok(match buf.kind() {
+            TCA_TUNNEL_KEY_TM => TcActionTunnelKeyOption::Tm(parse_record(buf.value)?),
+            TCA_TUNNEL_KEY_PARMS => TcActionTunnelKeyOption::Parms(parse_record(buf.value)?),
+            TCA_TUNNEL_KEY_ENC_IPV4_SRC => {
+                TcActionTunnelKeyOption::EncIpv4Src(parse_ipv4_addr(buf.value)?)
+            }
+            TCA_TUNNEL_KEY_ENC_IPV4_DST => {
+                TcActionTunnelKeyOption::EncIpv4Dst(parse_ipv4_addr(buf.value)?)
+            }
+            TCA_TUNNEL_KEY_ENC_IPV6_SRC => {
+                TcActionTunnelKeyOption::EncIpv6Src(parse_ipv6_addr(buf.value)?)
+            }
+            TCA_TUNNEL_KEY_ENC_IPV6_DST => {
+                TcActionTunnelKeyOption::EncIpv6Dst(parse_ipv6_addr(buf.value)?)
+            }
+            TCA_TUNNEL_KEY_ENC_KEY_ID => {
+                TcActionTunnelKeyOption::EncKeyId(parse::<BigEndian<u32>, 4>(buf.value)?.0)
+            }
+            TCA_TUNNEL_KEY_ENC_DST_PORT => {
+                TcActionTunnelKeyOption::EncDstPort(parse::<BigEndian<u16>, 2>(buf.value)?.0)
+            }
+            TCA_TUNNEL_KEY_NO_CSUM => {
+                TcActionTunnelKeyOption::NoCsum(parse::<u8, 1>(buf.value)? != 0)
+            }
+            TCA_TUNNEL_KEY_ENC_TOS => TcActionTunnelKeyOption::EncTos(parse(buf.value)?),
+            TCA_TUNNEL_KEY_ENC_TTL => TcActionTunnelKeyOption::EncTtl(parse(buf.value)?),
+            _ => TcActionTunnelKeyOption::Other(DefaultNla::from(*buf)),
+        })
     }
 }
 
@@ -120,10 +110,10 @@ impl<'a> Nla for TcActionTunnelKeyOption<'a> {
 
     fn value_len(&self) -> usize {
         match self {
-            TcActionTunnelKeyOption::Tm(_) => <Tcf as Record>::size(),
-            TcActionTunnelKeyOption::Parms(_) => <TcTunnelKey as Record>::size(),
+            TcActionTunnelKeyOption::Tm(_) => Tcf::size(),
+            TcActionTunnelKeyOption::Parms(_) => TcTunnelKey::size(),
             TcActionTunnelKeyOption::EncIpv4Src(address)
-            | TcActionTunnelKeyOption::EncIpv4Dst(address) => length_of(&address.octets),
+            | TcActionTunnelKeyOption::EncIpv4Dst(address) => address.octets.len(),
             TcActionTunnelKeyOption::EncKeyId(_) => 4,
             TcActionTunnelKeyOption::EncIpv6Src(address)
             | TcActionTunnelKeyOption::EncIpv6Dst(address) => address.octets.len(),

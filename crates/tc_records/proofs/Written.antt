@@ -30,10 +30,6 @@ pub filled : {old now written : Bytes} → SoFar old now written → length writ
 filled {old} {now} {written} s e =
     s.front ∙ ap (λ (n : ℕ). written ++ drop n old) (zero-add (length written)) ∙ ap (λ (r : Bytes). written ++ r) (drop_all (length written) old (omega arith)) ∙ append-nil written
 
--- the clause of a write that was made
-pub written-whole : (n : ℕ) (old now x : Bytes) → length old ≡ n → now ≡ x → now ≡ cond (eqb (length old) n) x old
-written-whole n old now x e w = w ∙ sym (cond-true (eqb (length old) n) x old (eq-eqb (length old) n e))
-
 -- the clauses of a form that was written at the front of a longer buffer
 module _ (old now form : Bytes) (room : length form ≤ length old) where
   fits : ltb (length old) (length form) ≡ false

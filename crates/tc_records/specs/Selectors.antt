@@ -1,6 +1,6 @@
 -- The selector of the code is that of the model; what a payload reads as, and what a selector is written as. Assumes nothing.
-use Rattle.std.specs.Prelude.{ℕ, zero, suc, cond, List, [], ◌∷◌, ◌++◌, length, Some, None, Ok, Err, Option, Result, nat_lt}
-use Rattle.model.specs.Numbers.{Bytes, le_bytes, be_bytes, signed_bytes}
+use Rattle.std.specs.Prelude.{◌≡◌, ◌≤◌, ℕ, zero, suc, cond, List, [], ◌∷◌, ◌++◌, length, Some, None, Ok, Err, Option, Result, nat_lt}
+use Rattle.model.specs.Numbers.{Bytes, le, be, signed, le_bytes, be_bytes, signed_bytes}
 use Rattle.model.specs.Faults.{cause_number}
 use Rattle.model.specs.Records.{Key}
 use Rattle.model.specs.Selector.{Selector, wanted, keys_in, decode}
@@ -26,6 +26,18 @@ as_selector s = record {
 abbrev pub selected : Result TcU32Selector DecodeError → Result Selector Lack
 selected (Ok s) = Ok (as_selector s)
 selected (Err e) = Err (lack (cause_number e.cause) e.need)
+
+-- the numbers of the selector stand at the front of the bytes
+pub record HeadIn (x : Bytes) (s : TcU32Selector) : Type 0 where
+  pub long : 16 ≤ length x
+  pub flags : s.flags ≡ le 0 1 x
+  pub offshift : s.offshift ≡ le 1 1 x
+  pub nkeys : s.nkeys ≡ le 2 1 x
+  pub offmask : s.offmask ≡ be 4 2 x
+  pub off : s.off ≡ le 6 2 x
+  pub offoff : s.offoff ≡ signed 8 2 x
+  pub hoff : s.hoff ≡ signed 10 2 x
+  pub hmask : s.hmask ≡ be 12 4 x
 
 -- 16 bytes, and then as many as the third byte wants; else cause 13, with the length wanted
 abbrev pub selector_in : Bytes → Result Selector Lack

@@ -6,10 +6,11 @@ ghost use Rattle.tc_records.specs.Layouts.{as_generic, of_generic, as_times, of_
 ghost use Rattle.model.proofs.RecordLaws.{records_lawful};
 ghost use Rattle.tc_records.specs.Again.{generic_again};
 
-use crate::fields::{i32_at, i32_bytes, u32_at, u32_bytes, u64_at, u64_bytes};
+use crate::joined::joined;
 use crate::outcome::TcActionType;
 use crate::record::Record;
-use netlink::overwrite::overwrite;
+use netlink::overwrite::fill;
+use payload::number::{Number, number_at};
 
 /// The common head of an action's parameters.
 #[derive(Clone, Copy)]
@@ -42,33 +43,32 @@ impl Record for TcActionGeneric {
     }
 
     fn read(bytes: &[u8]) -> Option<TcActionGeneric> {
-        if bytes.len() < 20 {
-            return None;
-        }
         Some(TcActionGeneric {
-            index: u32_at(bytes, 0),
-            capab: u32_at(bytes, 4),
-            action: TcActionType::from_number(i32_at(bytes, 8)),
-            refcnt: i32_at(bytes, 12),
-            bindcnt: i32_at(bytes, 16),
+            index: number_at(bytes, 0)?,
+            capab: number_at(bytes, 4)?,
+            action: TcActionType::from(number_at::<i32, 4>(bytes, 8)?),
+            refcnt: number_at(bytes, 12)?,
+            bindcnt: number_at(bytes, 16)?,
         })
     }
 
     fn write(&self, buffer: &mut [u8]) -> bool {
-        let whole = buffer.len() == 20;
-        if whole {
-            let index = u32_bytes(self.index);
-            let capab = u32_bytes(self.capab);
-            let action = i32_bytes(self.action.number());
-            let refcnt = i32_bytes(self.refcnt);
-            let bindcnt = i32_bytes(self.bindcnt);
-            overwrite(buffer, 0, &index);
-            overwrite(buffer, 4, &capab);
-            overwrite(buffer, 8, &action);
-            overwrite(buffer, 12, &refcnt);
-            overwrite(buffer, 16, &bindcnt);
-        }
-        whole
+        fill(buffer, &self.to_bytes())
+    }
+}
+
+impl TcActionGeneric {
+    /// The record's bytes.
+    pub fn to_bytes(&self) -> [u8; 20]
+        ensures { result ≡ generic.encode (as_generic self.now) }
+    {
+        joined(&[
+            &self.index.to_bytes(),
+            &self.capab.to_bytes(),
+            &i32::from(self.action).to_bytes(),
+            &self.refcnt.to_bytes(),
+            &self.bindcnt.to_bytes(),
+        ])
     }
 }
 
@@ -101,40 +101,29 @@ impl Record for Tcf {
     }
 
     fn read(bytes: &[u8]) -> Option<Tcf> {
-        if bytes.len() < 32 {
-            return None;
-        }
         Some(Tcf {
-            install: u64_at(bytes, 0),
-            lastuse: u64_at(bytes, 8),
-            expires: u64_at(bytes, 16),
-            firstuse: u64_at(bytes, 24),
+            install: number_at(bytes, 0)?,
+            lastuse: number_at(bytes, 8)?,
+            expires: number_at(bytes, 16)?,
+            firstuse: number_at(bytes, 24)?,
         })
     }
 
     fn write(&self, buffer: &mut [u8]) -> bool {
-        let whole = buffer.len() == 32;
-        if whole {
-            let install = u64_bytes(self.install);
-            let lastuse = u64_bytes(self.lastuse);
-            let expires = u64_bytes(self.expires);
-            let firstuse = u64_bytes(self.firstuse);
-            overwrite(buffer, 0, &install);
-            overwrite(buffer, 8, &lastuse);
-            overwrite(buffer, 16, &expires);
-            overwrite(buffer, 24, &firstuse);
-        }
-        whole
+        fill(buffer, &self.to_array())
     }
 }
 
-impl TcActionGeneric {
+impl Tcf {
     /// The record's bytes.
-    pub fn to_bytes(&self) -> [u8; 20]
-        ensures { result ≡ generic.encode (as_generic self.now) }
+    fn to_array(&self) -> [u8; 32]
+        ensures { result ≡ times.encode (as_times self.now) }
     {
-        let mut bytes = [0; 20];
-        self.write(&mut bytes);
-        bytes
+        joined(&[
+            &self.install.to_bytes(),
+            &self.lastuse.to_bytes(),
+            &self.expires.to_bytes(),
+            &self.firstuse.to_bytes(),
+        ])
     }
 }

@@ -2,11 +2,12 @@
 ghost use Rattle.model.specs.Records.{key};
 ghost use Rattle.tc_records.specs.Layouts.{as_key, of_key};
 ghost use Rattle.model.proofs.RecordLaws.{records_lawful};
-ghost use Rattle.std.specs.Prelude.{refl};
+ghost use Rattle.std.specs.Prelude.{◌≡◌, refl};
 
-use crate::fields::{i32_at, i32_bytes, u32_be_at, u32_be_bytes};
+use crate::joined::joined;
 use crate::record::Record;
-use netlink::overwrite::overwrite;
+use netlink::overwrite::fill;
+use payload::number::{BigEndian, Number, number_at};
 
 /// One comparison: the bits of `mask` in the packet's word at `off` are those of `val`.
 #[derive(Clone, Copy)]
@@ -33,25 +34,29 @@ impl Record for TcU32Key {
     }
 
     fn read(bytes: &[u8]) -> Option<TcU32Key> {
-        if bytes.len() < 16 {
-            return None;
-        }
         Some(TcU32Key {
-            mask: u32_be_at(bytes, 0),
-            val: u32_be_at(bytes, 4),
-            off: i32_at(bytes, 8),
-            offmask: i32_at(bytes, 12),
+            mask: number_at::<BigEndian<u32>, 4>(bytes, 0)?.0,
+            val: number_at::<BigEndian<u32>, 4>(bytes, 4)?.0,
+            off: number_at(bytes, 8)?,
+            offmask: number_at(bytes, 12)?,
         })
     }
 
     fn write(&self, buffer: &mut [u8]) -> bool {
-        let whole = buffer.len() == 16;
-        if whole {
-            overwrite(buffer, 0, &u32_be_bytes(self.mask));
-            overwrite(buffer, 4, &u32_be_bytes(self.val));
-            overwrite(buffer, 8, &i32_bytes(self.off));
-            overwrite(buffer, 12, &i32_bytes(self.offmask));
-        }
-        whole
+        fill(buffer, &self.to_array())
+    }
+}
+
+impl TcU32Key {
+    /// The record's bytes.
+    fn to_array(&self) -> [u8; 16]
+        ensures { result ≡ key.encode (as_key self.now) }
+    {
+        joined(&[
+            &BigEndian(self.mask).to_bytes(),
+            &BigEndian(self.val).to_bytes(),
+            &self.off.to_bytes(),
+            &self.offmask.to_bytes(),
+        ])
     }
 }

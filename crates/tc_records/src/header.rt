@@ -12,22 +12,24 @@ pub struct TcHandle {
     pub minor: u16,
 }
 
-impl TcHandle {
-    /// The handle that a number means.
-    pub fn from_number(number: u32) -> TcHandle
-        ensures { result ≡ record { major = number / 65536; minor = number % 65536 } }
-    {
+/// The handle that a number means.
+impl From<u32> for TcHandle {
+    ghost from_gives = { λ n h. h ≡ record { major = n / 65536; minor = n % 65536 } };
+
+    fn from(number: u32) -> TcHandle {
         TcHandle {
             major: (number / 65536) as u16,
             minor: (number % 65536) as u16,
         }
     }
+}
 
-    /// The number of a handle.
-    pub fn number(self) -> u32
-        ensures { result ≡ self.major * 65536 + self.minor }
-    {
-        u32::from(self.major) * 65536 + u32::from(self.minor)
+/// The number of a handle.
+impl From<TcHandle> for u32 {
+    ghost from_gives = { λ h n. n ≡ h.major * 65536 + h.minor };
+
+    fn from(handle: TcHandle) -> u32 {
+        u32::from(handle.major) * 65536 + u32::from(handle.minor)
     }
 }
 

@@ -3,8 +3,8 @@
 
 pub mod action;
 pub mod cls_u32;
-mod fields;
 pub mod header;
+mod joined;
 pub mod mirror;
 pub mod mirror_action;
 pub mod names;

@@ -2,16 +2,17 @@
 ghost use Rattle.model.specs.Records.{mirror};
 ghost use Rattle.tc_records.specs.Layouts.{as_mirror, of_mirror};
 ghost use Rattle.std.proofs.Common.{ap, ◌∙◌, rules};
-ghost use Rattle.std.specs.Prelude.{refl};
+ghost use Rattle.std.specs.Prelude.{◌≡◌, refl};
 ghost use Rattle.model.proofs.RecordLaws.{records_lawful};
 ghost use Rattle.tc_records.specs.Again.{mirror_again};
 
 use crate::action::TcActionGeneric;
-use crate::fields::{i32_at, i32_bytes, u32_at, u32_bytes};
+use crate::joined::joined;
 use crate::mirror_action::TcMirrorActionType;
 use crate::parameters::ParameterRecord;
 use crate::record::Record;
-use netlink::overwrite::overwrite;
+use netlink::overwrite::fill;
+use payload::number::{Number, number_at};
 
 /// The parameters of a mirror action.
 #[derive(Clone, Copy)]
@@ -40,28 +41,28 @@ impl Record for TcMirror {
     }
 
     fn read(bytes: &[u8]) -> Option<TcMirror> {
-        if bytes.len() < 28 {
-            return None;
-        }
-        let generic = <TcActionGeneric as Record>::read(bytes)?;
         Some(TcMirror {
-            generic,
-            eaction: TcMirrorActionType::from_number(i32_at(bytes, 20)),
-            ifindex: u32_at(bytes, 24),
+            generic: TcActionGeneric::read(bytes)?,
+            eaction: TcMirrorActionType::from(number_at::<i32, 4>(bytes, 20)?),
+            ifindex: number_at(bytes, 24)?,
         })
     }
 
     fn write(&self, buffer: &mut [u8]) -> bool {
-        let whole = buffer.len() == 28;
-        if whole {
-            let generic = self.generic.to_bytes();
-            let eaction = i32_bytes(self.eaction.number());
-            let ifindex = u32_bytes(self.ifindex);
-            overwrite(buffer, 0, &generic);
-            overwrite(buffer, 20, &eaction);
-            overwrite(buffer, 24, &ifindex);
-        }
-        whole
+        fill(buffer, &self.to_array())
+    }
+}
+
+impl TcMirror {
+    /// The record's bytes.
+    fn to_array(&self) -> [u8; 28]
+        ensures { result ≡ mirror.encode (as_mirror self.now) }
+    {
+        joined(&[
+            &self.generic.to_bytes(),
+            &i32::from(self.eaction).to_bytes(),
+            &self.ifindex.to_bytes(),
+        ])
     }
 }
 

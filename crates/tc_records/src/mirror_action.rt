@@ -18,11 +18,11 @@ pub enum TcMirrorActionType {
     Other(i32),
 }
 
-impl TcMirrorActionType {
-    /// The name of a number.
-    pub fn from_number(number: i32) -> Self
-        ensures { result ≡ of_mirror_action (mirror_action number) }
-    {
+/// The name of a number.
+impl From<i32> for TcMirrorActionType {
+    ghost from_gives = { λ z a. a ≡ of_mirror_action (mirror_action z) };
+
+    fn from(number: i32) -> TcMirrorActionType {
         match number {
             1 => TcMirrorActionType::EgressRedir,
             2 => TcMirrorActionType::EgressMirror,
@@ -31,12 +31,14 @@ impl TcMirrorActionType {
             other => TcMirrorActionType::Other(other),
         }
     }
+}
 
-    /// The number of a name.
-    pub fn number(self) -> i32
-        ensures { result ≡ mirror_action_number (as_mirror_action self) }
-    {
-        match self {
+/// The number of a name.
+impl From<TcMirrorActionType> for i32 {
+    ghost from_gives = { λ a z. z ≡ mirror_action_number (as_mirror_action a) };
+
+    fn from(action: TcMirrorActionType) -> i32 {
+        match action {
             TcMirrorActionType::EgressRedir => 1,
             TcMirrorActionType::EgressMirror => 2,
             TcMirrorActionType::IngressRedir => 3,

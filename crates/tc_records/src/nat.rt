@@ -2,15 +2,16 @@
 ghost use Rattle.model.specs.Records.{nat};
 ghost use Rattle.tc_records.specs.Layouts.{as_nat, of_nat};
 ghost use Rattle.std.proofs.Common.{ap, ◌∙◌, rules};
-ghost use Rattle.std.specs.Prelude.{refl};
+ghost use Rattle.std.specs.Prelude.{◌≡◌, refl};
 ghost use Rattle.model.proofs.RecordLaws.{records_lawful};
 ghost use Rattle.tc_records.specs.Again.{nat_again};
 
 use crate::action::TcActionGeneric;
-use crate::fields::{u32_at, u32_be_at, u32_be_bytes, u32_bytes};
+use crate::joined::joined;
 use crate::parameters::ParameterRecord;
 use crate::record::Record;
-use netlink::overwrite::overwrite;
+use netlink::overwrite::fill;
+use payload::number::{BigEndian, Number, number_at};
 
 /// The parameters of an address translation.
 #[derive(Clone, Copy)]
@@ -43,34 +44,32 @@ impl Record for TcNat {
     }
 
     fn read(bytes: &[u8]) -> Option<TcNat> {
-        if bytes.len() < 36 {
-            return None;
-        }
-        let generic = <TcActionGeneric as Record>::read(bytes)?;
         Some(TcNat {
-            generic,
-            old_addr: u32_be_at(bytes, 20),
-            new_addr: u32_be_at(bytes, 24),
-            mask: u32_be_at(bytes, 28),
-            flags: u32_at(bytes, 32),
+            generic: TcActionGeneric::read(bytes)?,
+            old_addr: number_at::<BigEndian<u32>, 4>(bytes, 20)?.0,
+            new_addr: number_at::<BigEndian<u32>, 4>(bytes, 24)?.0,
+            mask: number_at::<BigEndian<u32>, 4>(bytes, 28)?.0,
+            flags: number_at(bytes, 32)?,
         })
     }
 
     fn write(&self, buffer: &mut [u8]) -> bool {
-        let whole = buffer.len() == 36;
-        if whole {
-            let generic = self.generic.to_bytes();
-            let old_addr = u32_be_bytes(self.old_addr);
-            let new_addr = u32_be_bytes(self.new_addr);
-            let mask = u32_be_bytes(self.mask);
-            let flags = u32_bytes(self.flags);
-            overwrite(buffer, 0, &generic);
-            overwrite(buffer, 20, &old_addr);
-            overwrite(buffer, 24, &new_addr);
-            overwrite(buffer, 28, &mask);
-            overwrite(buffer, 32, &flags);
-        }
-        whole
+        fill(buffer, &self.to_array())
+    }
+}
+
+impl TcNat {
+    /// The record's bytes.
+    fn to_array(&self) -> [u8; 36]
+        ensures { result ≡ nat.encode (as_nat self.now) }
+    {
+        joined(&[
+            &self.generic.to_bytes(),
+            &BigEndian(self.old_addr).to_bytes(),
+            &BigEndian(self.new_addr).to_bytes(),
+            &BigEndian(self.mask).to_bytes(),
+            &self.flags.to_bytes(),
+        ])
     }
 }
 

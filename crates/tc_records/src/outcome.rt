@@ -30,11 +30,11 @@ pub enum TcActionType {
     Other(i32),
 }
 
-impl TcActionType {
-    /// The name of a number.
-    pub fn from_number(number: i32) -> Self
-        ensures { result ≡ of_outcome (outcome number) }
-    {
+/// The name of a number.
+impl From<i32> for TcActionType {
+    ghost from_gives = { λ z o. o ≡ of_outcome (outcome z) };
+
+    fn from(number: i32) -> TcActionType {
         match number {
             -1 => TcActionType::Unspec,
             0 => TcActionType::Ok,
@@ -49,12 +49,14 @@ impl TcActionType {
             other => TcActionType::Other(other),
         }
     }
+}
 
-    /// The number of a name.
-    pub fn number(self) -> i32
-        ensures { result ≡ outcome_number (as_outcome self) }
-    {
-        match self {
+/// The number of a name.
+impl From<TcActionType> for i32 {
+    ghost from_gives = { λ o z. z ≡ outcome_number (as_outcome o) };
+
+    fn from(outcome: TcActionType) -> i32 {
+        match outcome {
             TcActionType::Unspec => -1,
             TcActionType::Ok => 0,
             TcActionType::Reclassify => 1,

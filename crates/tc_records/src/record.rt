@@ -41,10 +41,7 @@ pub fn parse_record<R: Record>(payload: &[u8]) -> Result<R, DecodeError>
 {
     match R::read(payload) {
         Some(record) => Ok(record),
-        None => Err(DecodeError {
-            cause: Cause::TooShort,
-            need: R::size(),
-        }),
+        None => Err(DecodeError::too_short(R::size())),
     }
 }
 

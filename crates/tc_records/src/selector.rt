@@ -1,21 +1,19 @@
 // The selector of a u32 filter: 16 bytes, then its keys.
-ghost use Rattle.std.specs.Prelude.{◌≡◌, ◌+◌, ◌-◌, ◌*◌, ◌≤◌, ◌&&◌, ◌∷◌, ◌++◌, length, take, drop, IfOk, if◌then◌else◌, Some, None, Ok, nat_le, nat_lt};
+ghost use Rattle.std.specs.Prelude.{◌≡◌, ◌+◌, ◌-◌, ◌*◌, ◌<◌, ◌≤◌, ◌&&◌, ◌∷◌, ◌++◌, length, take, drop, IfOk, MatchOption, if◌then◌else◌, Some, None, Ok, nat_le, nat_lt};
 ghost use Rattle.model.specs.Numbers.{part, le};
 ghost use Rattle.model.specs.Records as layouts;
 ghost use Rattle.model.specs.Selector.{wanted, encode};
-ghost use Rattle.model.specs.declared.fault.Cause.TheVariants.{TooShort};
 ghost use Rattle.netlink.specs.Emission.{by_number, emission, buffer_after};
 ghost use Rattle.tc_records.specs.Layouts.{of_key};
-ghost use Rattle.tc_records.specs.Selectors.{as_selector, selected, selector_in, nth_key, selector_head, selector_form};
+ghost use Rattle.tc_records.specs.Selectors.{HeadIn, as_selector, selected, selector_in, nth_key, selector_head, selector_form};
 
 use crate::cls_u32::TcU32Key;
-use crate::fields::{
-    i16_at, i16_bytes, u16_at, u16_be_at, u16_be_bytes, u16_bytes, u32_be_at, u32_be_bytes,
-};
+use crate::joined::joined;
 use crate::record::Record;
 use model::fault::Cause;
 use netlink::overwrite::overwrite;
 use payload::error::DecodeError;
+use payload::number::{BigEndian, Number, number_at};
 
 /// The selector of a u32 filter: its own numbers, and the bytes of its keys, which are a part of the filter.
 #[derive(Clone, Copy)]
@@ -40,16 +38,6 @@ pub struct TcU32Selector<'a> {
     pub keys: &'a [u8],
 }
 
-/// A payload has not the length wanted at least.
-fn too_short(need: usize) -> DecodeError
-    ensures { result ≡ record { cause = TooShort; need = need } }
-{
-    DecodeError {
-        cause: Cause::TooShort,
-        need,
-    }
-}
-
 impl<'a> TcU32Selector<'a> {
     /// The selector at the front of a payload, which has 16 bytes, and 16 more for each key; else cause 13, with the length wanted.
     /// Written, it is the bytes that were read, with byte 3 zero, and that is the form that the model gives it.
@@ -59,24 +47,26 @@ impl<'a> TcU32Selector<'a> {
         ensures written { IfOk result (λ s. selector_form s ≡ take 3 payload.now ++ (0 ∷ part 4 (wanted payload.now - 4) payload.now)) }
         ensures form { IfOk result (λ s. selector_form s ≡ encode (as_selector s)) }
     {
-        if payload.len() < 16 {
-            return Err(too_short(16));
-        }
-        let nkeys = payload[2];
-        let end = 16 + 16 * nkeys as usize;
-        if payload.len() < end {
-            return Err(too_short(end));
-        }
-        Ok(TcU32Selector {
-            flags: payload[0],
-            offshift: payload[1],
-            nkeys,
-            offmask: u16_be_at(payload, 4),
-            off: u16_at(payload, 6),
-            offoff: i16_at(payload, 8),
-            hoff: i16_at(payload, 10),
-            hmask: u32_be_at(payload, 12),
-            keys: &payload[16..end],
+        let head = Self::head(payload).ok_or(DecodeError::too_short(16))?;
+        let end = 16 + 16 * head.nkeys as usize;
+        let keys = payload.get(16..end).ok_or(DecodeError::too_short(end))?;
+        Ok(TcU32Selector { keys, ..head })
+    }
+
+    /// The numbers at the front of a payload of 16 bytes or more, with no keys yet.
+    fn head(payload: &[u8]) -> Option<Self>
+        ensures { MatchOption result (length payload.now < 16) (HeadIn payload.now) }
+    {
+        Some(TcU32Selector {
+            flags: number_at(payload, 0)?,
+            offshift: number_at(payload, 1)?,
+            nkeys: number_at(payload, 2)?,
+            offmask: number_at::<BigEndian<u16>, 2>(payload, 4)?.0,
+            off: number_at(payload, 6)?,
+            offoff: number_at(payload, 8)?,
+            hoff: number_at(payload, 10)?,
+            hmask: number_at::<BigEndian<u32>, 4>(payload, 12)?.0,
+            keys: &[],
         })
     }
 
@@ -90,10 +80,7 @@ impl<'a> TcU32Selector<'a> {
             return None;
         }
         let at = 16 * i;
-        if self.keys.len() < at + 16 {
-            return None;
-        }
-        <TcU32Key as Record>::read(&self.keys[at..])
+        TcU32Key::read(self.keys.get(at..)?)
     }
 
     /// How many bytes the selector is written as.
@@ -107,29 +94,14 @@ impl<'a> TcU32Selector<'a> {
     fn head_bytes(&self) -> [u8; 16]
         ensures { result ≡ selector_head self.now }
     {
-        let [a, b] = u16_be_bytes(self.offmask);
-        let [c, d] = u16_bytes(self.off);
-        let [e, f] = i16_bytes(self.offoff);
-        let [g, h] = i16_bytes(self.hoff);
-        let [i, j, k, l] = u32_be_bytes(self.hmask);
-        [
-            self.flags,
-            self.offshift,
-            self.nkeys,
-            0,
-            a,
-            b,
-            c,
-            d,
-            e,
-            f,
-            g,
-            h,
-            i,
-            j,
-            k,
-            l,
-        ]
+        joined(&[
+            &[self.flags, self.offshift, self.nkeys, 0],
+            &BigEndian(self.offmask).to_bytes(),
+            &self.off.to_bytes(),
+            &self.offoff.to_bytes(),
+            &self.hoff.to_bytes(),
+            &BigEndian(self.hmask).to_bytes(),
+        ])
     }
 
     /// Writes the selector at the front of the buffer, and answers how many bytes that took; cause 16 where the buffer is shorter.

@@ -2,15 +2,16 @@
 ghost use Rattle.model.specs.Records.{tunnel_key};
 ghost use Rattle.tc_records.specs.Layouts.{as_tunnel_key, of_tunnel_key};
 ghost use Rattle.std.proofs.Common.{ap, ◌∙◌, rules};
-ghost use Rattle.std.specs.Prelude.{refl};
+ghost use Rattle.std.specs.Prelude.{◌≡◌, refl};
 ghost use Rattle.model.proofs.RecordLaws.{records_lawful};
 ghost use Rattle.tc_records.specs.Again.{tunnel_key_again};
 
 use crate::action::TcActionGeneric;
-use crate::fields::{i32_at, i32_bytes};
+use crate::joined::joined;
 use crate::parameters::ParameterRecord;
 use crate::record::Record;
-use netlink::overwrite::overwrite;
+use netlink::overwrite::fill;
+use payload::number::{Number, number_at};
 
 /// The parameters of a tunnel key action.
 #[derive(Clone, Copy)]
@@ -37,25 +38,26 @@ impl Record for TcTunnelKey {
     }
 
     fn read(bytes: &[u8]) -> Option<TcTunnelKey> {
-        if bytes.len() < 24 {
-            return None;
-        }
-        let generic = <TcActionGeneric as Record>::read(bytes)?;
         Some(TcTunnelKey {
-            generic,
-            t_action: i32_at(bytes, 20),
+            generic: TcActionGeneric::read(bytes)?,
+            t_action: number_at(bytes, 20)?,
         })
     }
 
     fn write(&self, buffer: &mut [u8]) -> bool {
-        let whole = buffer.len() == 24;
-        if whole {
-            let generic = self.generic.to_bytes();
-            let t_action = i32_bytes(self.t_action);
-            overwrite(buffer, 0, &generic);
-            overwrite(buffer, 20, &t_action);
-        }
-        whole
+        fill(buffer, &self.to_array())
+    }
+}
+
+impl TcTunnelKey {
+    /// The record's bytes.
+    fn to_array(&self) -> [u8; 24]
+        ensures { result ≡ tunnel_key.encode (as_tunnel_key self.now) }
+    {
+        joined(&[
+            &self.generic.to_bytes(),
+            &self.t_action.to_bytes(),
+        ])
     }
 }
 

@@ -1,36 +1,40 @@
-use Rattle.std.proofs.Common.{◌≡◌, ℕ, ◌+◌, ◌-◌, ◌*◌, get_or, take, drop, ap, ◌∙◌, arith, w16, SFits, rules}
+use Rattle.std.proofs.Common.{◌≡◌, ℕ, ◌+◌, ◌-◌, ◌*◌, ◌≤◌, length, take, drop, ap, ◌∙◌, arith, w16, SFits, rules}
 use Rattle.std.proofs.lemmas.Int.{to_z-of_z}
-use Rattle.model.specs.Numbers.{le}
-use Rattle.tc_records.proofs.Parts.{le-one}
+use Rattle.model.specs.Numbers.{le, part}
+use Rattle.tc_records.specs.Selectors.{HeadIn}
 use Rattle.tc_records.proofs.SelectorParts.{octets, Found, reads, written, modelled}
 use Rattle.tc_records.proofs.selector.TcU32Selector.parse.Goals as goal
 
 pub returns : goal.returns
 returns c =
     let x = c.args.payload.now in
-    let n : get_or x 2 0 ≡ le 2 1 x = le-one 2 x (omega arith) in
-    let size : 16 + 16 * get_or x 2 0 - 16 ≡ 16 * le 2 1 x = omega arith in
-    let fit₁ : SFits w16 c.i16_at.result = search rules in
-    let fit₂ : SFits w16 c.i16_at-2.result = search rules in
+    let s = c.in_ok-head.head in
+    let h : HeadIn x s = rw c.in_ok-head.ensures.ok_part at c.head.ensures in
+    let k = (rw c.in_ok-keys.ensures.ok_part at c.get.ensures.lookup).0 in
+    let n : s.nkeys ≡ le 2 1 x = h.nkeys in
+    let size : 16 + 16 * s.nkeys - 16 ≡ 16 * le 2 1 x = omega arith in
+    let fit₁ : SFits w16 s.offoff = search rules in
+    let fit₂ : SFits w16 s.hoff = search rules in
+    let long : 16 + 16 * s.nkeys ≤ length x = k.1 in
     let f : Found x = record {
-      flags = get_or x 0 0;
-      offshift = get_or x 1 0;
-      nkeys = get_or x 2 0;
-      offmask = c.u16_be_at.result;
-      off = c.u16_at.result;
+      flags = s.flags;
+      offshift = s.offshift;
+      nkeys = s.nkeys;
+      offmask = s.offmask;
+      off = s.off;
       offoff = _;
       hoff = _;
-      hmask = c.u32_be_at.result;
-      keys = take (16 + 16 * get_or x 2 0 - 16) (drop 16 x);
-      flags_is = le-one 0 x (omega arith);
-      offshift_is = le-one 1 x (omega arith);
+      hmask = s.hmask;
+      keys = c.in_ok-keys.keys.now;
+      flags_is = h.flags;
+      offshift_is = h.offshift;
       nkeys_is = n;
-      offmask_is = c.u16_be_at.ensures;
-      off_is = c.u16_at.ensures;
-      offoff_is = to_z-of_z w16 c.i16_at.result fit₁ ∙ c.i16_at.ensures;
-      hoff_is = to_z-of_z w16 c.i16_at-2.result fit₂ ∙ c.i16_at-2.ensures;
-      hmask_is = c.u32_be_at.ensures;
-      keys_are = ap (λ (k : ℕ). take k (drop 16 x)) size;
+      offmask_is = h.offmask;
+      off_is = h.off;
+      offoff_is = to_z-of_z w16 s.offoff fit₁ ∙ h.offoff;
+      hoff_is = to_z-of_z w16 s.hoff fit₂ ∙ h.hoff;
+      hmask_is = h.hmask;
+      keys_are = k.2 ∙ ap (λ (k : ℕ). take k (drop 16 x)) size;
       long = omega arith;
     } in
     let o = octets x c.type_inv.payload in
