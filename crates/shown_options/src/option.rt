@@ -4,8 +4,7 @@ ghost use Rattle.std.specs.Str.{bytes_eq};
 ghost use Rattle.payload.specs.Errors.{decoded};
 ghost use Rattle.shown_options.specs.Options.{option_of};
 
-use crate::mirror::MirrorOption;
-use crate::nat::NatOption;
+use crate::parms::ParmsOption;
 use crate::tunnel_key::TunnelKeyOption;
 use netlink::buffer::NlaBuffer;
 use netlink::default_nla::DefaultNla;
@@ -59,8 +58,8 @@ impl<'a> ActionOption<'a> {
 impl<'a> fmt::Display for ActionOption<'a> {
     fn fmt<W: fmt::Write>(&self, f: &mut fmt::Formatter<W>) -> fmt::Result {
         match *self {
-            ActionOption::Mirror(option) => MirrorOption(option).fmt(f),
-            ActionOption::Nat(option) => NatOption(option).fmt(f),
+            ActionOption::Mirror(option) => ParmsOption(option).fmt(f),
+            ActionOption::Nat(option) => ParmsOption(option).fmt(f),
             ActionOption::TunnelKey(option) => TunnelKeyOption(option).fmt(f),
             ActionOption::Other(attribute) => AsItStands(attribute).fmt(f),
         }

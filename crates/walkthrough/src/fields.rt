@@ -3,7 +3,7 @@ use crate::types::{TCA_U32_CLASSID, TCA_U32_SEL};
 use model::fault::Layer;
 use netlink::buffer::NlaBuffer;
 use netlink::walker::NlasIterator;
-use payload::parsers::parse_u32;
+use payload::parsers::parse;
 use std::fmt;
 use std::fmt::Display;
 use tc_records::cls_u32::TcU32Key;
@@ -64,8 +64,8 @@ pub(crate) struct Fields<'a>(pub(crate) &'a [u8]);
 fn write_option<W: fmt::Write>(f: &mut fmt::Formatter<W>, option: &NlaBuffer<'_>) -> fmt::Result {
     match option.kind() {
         TCA_U32_CLASSID => {
-            if let Ok(number) = parse_u32(option.value) {
-                let class = TcHandle::from_number(number);
+            if let Ok(number) = parse::<u32, 4>(option.value) {
+                let class = TcHandle::from(number);
                 writeln!(f, "class {class}")?;
             }
         }

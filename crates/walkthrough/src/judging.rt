@@ -28,13 +28,13 @@ impl fmt::Display for Parameters {
             bindcnt,
         } = self.0.generic;
         let outcome = outcome_of(&self.0);
-        let number = outcome.number();
+        let number = i32::from(outcome);
         writeln!(
             f,
             "  index {index}, capab {capab}, outcome {outcome:?} ({number}), refcnt {refcnt}, bindcnt {bindcnt}"
         )?;
         let action = self.0.eaction;
-        let number = action.number();
+        let number = i32::from(action);
         let interface = self.0.ifindex;
         writeln!(
             f,

@@ -104,9 +104,9 @@ impl fmt::Display for FaultLine {
     fn fmt<W: fmt::Write>(&self, f: &mut fmt::Formatter<W>) -> fmt::Result {
         let place = self.0.place;
         let words = self.0.cause;
-        let cause = self.0.cause.number();
+        let cause = u8::from(self.0.cause);
         let kind = self.0.layer;
-        let layer = self.0.layer.number();
+        let layer = u8::from(self.0.layer);
         writeln!(
             f,
             "place {place}, {kind}: {words} (cause {cause}, layer {layer})"
