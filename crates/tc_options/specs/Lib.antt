@@ -3,3 +3,4 @@ pub mod Parms
 pub mod Mirrors
 pub mod Nats
 pub mod TunnelKeys
+pub mod Options

@@ -3,5 +3,6 @@
 
 pub mod mirror;
 pub mod nat;
+pub mod option;
 pub mod parms;
 pub mod tunnel_key;

@@ -113,7 +113,7 @@ impl<'a> Nla for TcActionTunnelKeyOption<'a> {
             TcActionTunnelKeyOption::Tm(_) => Tcf::size(),
             TcActionTunnelKeyOption::Parms(_) => TcTunnelKey::size(),
             TcActionTunnelKeyOption::EncIpv4Src(address)
-            | TcActionTunnelKeyOption::EncIpv4Dst(address) => address.octets.len(),
+            | TcActionTunnelKeyOption::EncIpv4Dst(address) => address.octets.as_slice().len(),
             TcActionTunnelKeyOption::EncKeyId(_) => 4,
             TcActionTunnelKeyOption::EncIpv6Src(address)
             | TcActionTunnelKeyOption::EncIpv6Dst(address) => address.octets.len(),
