@@ -51,7 +51,9 @@ impl<'a> fmt::Display for TunnelKeyOption<'a> {
             TcActionTunnelKeyOption::EncIpv4Src(address) => End("source", address).fmt(f),
             TcActionTunnelKeyOption::EncIpv4Dst(address) => End("destination", address).fmt(f),
             TcActionTunnelKeyOption::EncIpv6Src(address) => End("source", Groups(address)).fmt(f),
-            TcActionTunnelKeyOption::EncIpv6Dst(address) => End("destination", Groups(address)).fmt(f),
+            TcActionTunnelKeyOption::EncIpv6Dst(address) => End("destination", Groups(address)).fmt(
+                f,
+            ),
             TcActionTunnelKeyOption::EncKeyId(id) => write!(f, "key id {id}"),
             TcActionTunnelKeyOption::EncDstPort(port) => write!(f, "destination port {port}"),
             TcActionTunnelKeyOption::NoCsum(without) => f.write_str(checksum_words(without)),

@@ -9,6 +9,7 @@ use std::fmt;
 use std::fmt::Display;
 use tc_filter::action::TcAction;
 use tc_filter::action_attribute::TcActionAttribute;
+use tc_options::option::TcActionOption;
 
 /// The options of an action of a kind.
 #[derive(Clone, Copy)]
@@ -20,8 +21,10 @@ struct Options<'a> {
 impl<'a> fmt::Display for Options<'a> {
     fn fmt<W: fmt::Write>(&self, f: &mut fmt::Formatter<W>) -> fmt::Result {
         f.write_str("    options\n")?;
+        let kind = self.kind.as_bytes();
         let found = self.options.nested(Layer::ActionOption);
-        for option in found.filter_map(|nla| ActionOption::parse(self.kind, &nla.ok()?).ok()) {
+        for option in found.filter_map(|nla| TcActionOption::parse(kind, &nla.ok()?).ok()) {
+            let option = ActionOption(option);
             writeln!(f, "      {option}")?;
         }
         Ok(())
