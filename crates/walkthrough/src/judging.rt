@@ -2,7 +2,6 @@
 use crate::types::{TCA_ACT_KIND, TCA_ACT_OPTIONS, TCA_U32_ACT};
 use model::fault::Layer;
 use netlink::buffer::NlaBuffer;
-use netlink::traits::Parseable;
 use netlink::walker::NlasIterator;
 use payload::text::parse_string;
 use std::fmt;
@@ -10,6 +9,7 @@ use std::fmt::Display;
 use tc::book::Book;
 use tc::shipped::ShippedBook;
 use tc_options::mirror::TcActionMirrorOption;
+use tc_options::option::TcActionOption;
 use tc_records::action::TcActionGeneric;
 use tc_records::mirror::TcMirror;
 use tc_records::parameters::outcome_of;
@@ -79,14 +79,12 @@ impl<'a> ActionOption<'a> {
 impl<'a> fmt::Display for ActionOption<'a> {
     fn fmt<W: fmt::Write>(&self, f: &mut fmt::Formatter<W>) -> fmt::Result {
         self.write_judgement(f)?;
-        if self.kind == "mirred" {
-            if let Ok(TcActionMirrorOption::Parms(parameters)) = TcActionMirrorOption::parse(
-                &self.nla,
-            ) {
-                Parameters(parameters).fmt(f)?;
+        match TcActionOption::parse(self.kind.as_bytes(), &self.nla) {
+            Ok(TcActionOption::Mirror(TcActionMirrorOption::Parms(parameters))) => {
+                Parameters(parameters).fmt(f)
             }
+            _ => Ok(()),
         }
-        Ok(())
     }
 }
 
