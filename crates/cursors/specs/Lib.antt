@@ -1,3 +1,4 @@
 pub mod Steps
 pub mod Heard
 pub mod Moves
+pub mod Ends

@@ -1,20 +1,15 @@
 -- One call of each cursor. Assumes nothing.
-use Rattle.std.specs.Prelude.{◌≡◌, ℕ, length, Ok, Err, Option, Result}
+use Rattle.std.specs.Prelude.{◌≡◌, ℕ, length, Option, Result}
 use Rattle.model.specs.Numbers.{Bytes}
 use Rattle.model.specs.Book.{Meaning}
 use Rattle.model.specs.Reading.{read_option, read_action, read_attribute}
 use Rattle.model.specs.declared.fault.Fault.{Fault}
-use Rattle.netlink.specs.declared.buffer.NlaBuffer.{NlaBuffer}
 use Rattle.netlink.specs.declared.walker.NlasIterator.{NlasIterator}
 use Rattle.netlink.specs.Walking.{ahead}
 use Rattle.tc_filter.specs.declared.cls_u32.TcFilterU32Option.{TcFilterU32Option}
-use Rattle.tc_filter.specs.Kinds as kinds
 use Rattle.tc_filter.specs.Kinds.{action_reads}
 use Rattle.tc_filter.specs.declared.action.TcAction.{TcAction}
 use Rattle.tc_filter.specs.declared.action_attribute.TcActionAttribute.{TcActionAttribute}
-use Rattle.cursors.specs.declared.options.Options.{Options}
-use Rattle.cursors.specs.declared.actions.Actions.{Actions}
-use Rattle.cursors.specs.declared.attributes.Attributes.{Attributes}
 use Rattle.cursors.specs.declared.action_options.JudgedOption.{JudgedOption}
 use Rattle.cursors.specs.Heard.{option_heard, attribute_heard, judged_heard, judged_as, given, step_of}
 
@@ -23,24 +18,20 @@ abbrev pub Stays : NlasIterator → NlasIterator → Type 0
 Stays s t = (t.end ≡ s.end) × (t.layer ≡ s.layer)
 
 -- the model's reading of the next option, with every book; and then what is left
-abbrev pub OptionStep : Options → Option (Result TcFilterU32Option Fault) → Options → Type 0
-OptionStep s r t = ((m : Meaning) → given (option_heard m) r (ahead t.walk) ≡ step_of (read_option m) s.walk) × Stays s.walk t.walk
+abbrev pub OptionStep : NlasIterator → Option (Result TcFilterU32Option Fault) → NlasIterator → Type 0
+OptionStep s r t = ((m : Meaning) → given (option_heard m) r (ahead t) ≡ step_of (read_option m) s) × Stays s t
 
 -- of the next action
-abbrev pub ActionStep : Actions → Option (Result TcAction Fault) → Actions → Type 0
-ActionStep s r t = ((m : Meaning) → given (action_reads m) r (ahead t.walk) ≡ step_of (read_action m) s.walk) × Stays s.walk t.walk
+abbrev pub ActionStep : NlasIterator → Option (Result TcAction Fault) → NlasIterator → Type 0
+ActionStep s r t = ((m : Meaning) → given (action_reads m) r (ahead t) ≡ step_of (read_action m) s) × Stays s t
 
 -- of the next attribute, with every kind
-abbrev pub AttributeStep : Attributes → Option (Result TcActionAttribute Fault) → Attributes → Type 0
-AttributeStep s r t = ((m : Meaning) (k : Bytes) → given (attribute_heard m k) r (ahead t.walk) ≡ step_of (read_attribute m k) s.walk) × Stays s.walk t.walk
+abbrev pub AttributeStep : NlasIterator → Option (Result TcActionAttribute Fault) → NlasIterator → Type 0
+AttributeStep s r t = ((m : Meaning) (k : Bytes) → given (attribute_heard m k) r (ahead t) ≡ step_of (read_attribute m k) s) × Stays s t
 
 -- and the book's judgement of the next option
 abbrev pub JudgedStep : Meaning → (kind_text : Bytes) → NlasIterator → Option (Result JudgedOption Fault) → NlasIterator → Type 0
 JudgedStep m k s r t = (given judged_heard r (ahead t) ≡ step_of (judged_as m k) s) × Stays s t
-
-abbrev pub InMemory : Result NlaBuffer Fault → Type 0
-InMemory (Ok a) = kinds.InMemory a
-InMemory (Err f) = Unit {0}
 
 abbrev pub left_of : NlasIterator → ℕ
 left_of s = length s.rest.now

@@ -22,20 +22,12 @@ pub struct JudgedOption<'a> {
 }
 
 /// A cursor over the options of an action: each as its book judges it under the action's kind, or its fault.
+// It is no `Parts`: a part is read from its attribute alone, and this one by a book and a kind, which the cursor holds.
+#[derive_where(Clone, Copy)]
 pub struct ActionOptions<'a, 'b, 'k, B> {
     walk: NlasIterator<'a>,
     book: &'b B,
     kind: &'k [u8],
-}
-
-impl<'a, 'b, 'k, B> Drop for ActionOptions<'a, 'b, 'k, B> {
-    fn drop(self) {
-        let ActionOptions {
-            walk: _,
-            book: _,
-            kind: _,
-        } = self;
-    }
 }
 
 /// What the book says of an attribute that a walk found.
@@ -94,9 +86,8 @@ impl<'a, 'b, 'k, B: Book> Iterator for ActionOptions<'a, 'b, 'k, B> {
     ghost remaining = { λ s. at_most (left_of s.walk) };
 
     fn next(&mut self) -> Option<Result<JudgedOption<'a>, Fault>> {
-        match self.walk.next() {
-            Some(found) => Some(judged_of(self.book, self.kind, found)),
-            None => None,
-        }
+        self.walk
+            .next()
+            .map(|found| judged_of(self.book, self.kind, found))
     }
 }

@@ -6,3 +6,4 @@ pub mod actions;
 pub mod attributes;
 pub mod laws;
 pub mod options;
+pub mod parts;

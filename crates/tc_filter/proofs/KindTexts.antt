@@ -1,5 +1,5 @@
 -- The kind of an action, text by text. Assumes nothing.
-use Rattle.std.proofs.Common.{◌≡◌, ℕ, Bool, true, false, cond, eqb, List, ◌∷◌, Some, Ok, Err, Result, sym, refl, ap, ◌∙◌, subst, arith, Bor}
+use Rattle.std.proofs.Common.{◌≡◌, ℕ, Bool, true, false, cond, eqb, List, ◌∷◌, Some, Ok, Err, Result, sym, ap, ◌∙◌, subst, arith, Bor}
 use Rattle.std.proofs.lemmas.Bool.{eq-eqb}
 use Rattle.model.specs.Numbers.{Bytes}
 use Rattle.model.specs.Attributes.{type_of}
@@ -16,15 +16,11 @@ use Rattle.netlink.specs.declared.buffer.NlaBuffer.{NlaBuffer}
 use Rattle.netlink.specs.declared.walker.NlasIterator.{NlasIterator}
 use Rattle.netlink.specs.Walking.{Goes, ahead}
 use Rattle.tc_filter.specs.declared.action.Seen.{Seen}
-use Rattle.tc_filter.specs.declared.action.Seen.TheVariants.{Nothing, One, Several}
 use Rattle.tc_filter.specs.Kinds.{after_those, kind_among, kind_heard}
 
 -- a step of the walk that found an attribute
 pub found-one : (s t : NlasIterator) (r : Result NlaBuffer Fault) (a : NlaBuffer) → r ≡ Ok a → Goes s (Some r) t → ahead s ≡ item a.place a.word a.value.now (ahead t)
 found-one s t r a e g = (subst (λ (q : Result NlaBuffer Fault). Goes s (Some q) t) e g).0
-
-pub same_layer : (s t : NlasIterator) (r : Result NlaBuffer Fault) (a : NlaBuffer) → r ≡ Ok a → Goes s (Some r) t → t.layer ≡ s.layer
-same_layer s t r a e g = (subst (λ (q : Result NlaBuffer Fault). Goes s (Some q) t) e g).3
 
 -- what a text that was looked at reads as
 placed_by : (p : ℕ) (r : Result (Bor Bytes) DecodeError) (b : Bool) (y : Bytes) → spelt r ≡ cond b (Ok y) (Err (lack 9 0)) → kind_heard (placed r p ActionAttribute) ≡ cond b (Ok y) (Err (fault 9 p 3))
@@ -39,9 +35,6 @@ module _ (p : ℕ) (x : Bytes) (r : Result (Bor Bytes) DecodeError) (q : Result 
   text_is : text p 3 x ≡ kind_heard q
   text_is = sym (placed_by p r (is_text (stripped x)) (stripped x) e) ∙ ap kind_heard (sym s)
 
-  pub text-ok : (t : Bor Bytes) → q ≡ Ok t → text p 3 x ≡ Ok t.now
-  text-ok t h = text_is ∙ ap kind_heard h
-
   pub text-bad : (f : Fault) → q ≡ Err f → text p 3 x ≡ Err (numbers f)
   text-bad f h = text_is ∙ ap kind_heard h
 
@@ -49,30 +42,12 @@ module _ (home : ℕ) (seen : Seen) where
   abbrev looked_at : Bool → Read Bytes → Read (List Bytes) → Read Bytes
   looked_at b q k = elim b [ true ↦ q >>= (λ t. k >>= λ l. Ok (t ∷ l)) | false ↦ k ] >>= after_those home seen
 
-  more_by : (b : Bool) (q : Read Bytes) (k : Read (List Bytes)) (t : Bytes) → b ≡ true → q ≡ Ok t → looked_at b q k ≡ (k >>= λ l. after_those home seen (t ∷ l))
-  more_by false q k t e h = let z : ◌≡◌ {A = ℕ} 0 1 = cc in absurd (omega arith)
-  more_by true (Err f) k t e h = let z : ◌≡◌ {A = ℕ} 0 1 = cc in absurd (omega arith)
-  more_by true (Ok u) (Err f) t e h = refl
-  more_by true (Ok u) (Ok l) t e h = let same : u ≡ t = cc in ap (λ (v : Bytes). after_those home seen (v ∷ l)) same
-
   bad_by : (b : Bool) (q : Read Bytes) (k : Read (List Bytes)) (f : FaultNumbers) → b ≡ true → q ≡ Err f → looked_at b q k ≡ Err f
   bad_by false q k f e h = let z : ◌≡◌ {A = ℕ} 0 1 = cc in absurd (omega arith)
   bad_by true (Err d) k f e h = cc
   bad_by true (Ok u) k f e h = let z : ◌≡◌ {A = ℕ} 0 1 = cc in absurd (omega arith)
 
   module _ (p w : ℕ) (x : Bytes) (r : Walked) (one : type_of w ≡ 1) where
-    -- a kind text is one more
-    pub kind-more : (t : Bytes) → text p 3 x ≡ Ok t → kind_among home seen (item p w x r) ≡ (kinds r >>= λ l. after_those home seen (t ∷ l))
-    kind-more t h = more_by (eqb (type_of w) 1) (text p 3 x) (kinds r) t (eq-eqb (type_of w) 1 one) h
-
     -- one that is no text is the answer
     pub kind-bad : (f : FaultNumbers) → text p 3 x ≡ Err f → kind_among home seen (item p w x r) ≡ Err f
     kind-bad f h = bad_by (eqb (type_of w) 1) (text p 3 x) (kinds r) f (eq-eqb (type_of w) 1 one) h
-
--- after one or more, one more makes several
-pub several : (home : ℕ) (seen : Seen) (k : Read (List Bytes)) (t : Bytes) → (seen ≡ Nothing → ⊥) → (k >>= λ l. after_those home seen (t ∷ l)) ≡ (k >>= after_those home Several)
-several home Nothing k t h = absurd (h refl)
-several home (One u) (Ok l) t h = refl
-several home (One u) (Err f) t h = refl
-several home Several (Ok l) t h = refl
-several home Several (Err f) t h = refl

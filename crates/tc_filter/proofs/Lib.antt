@@ -2,5 +2,4 @@ pub mod Payloads
 pub mod ByType
 pub mod KindTexts
 pub mod KindLengths
-pub mod Lengths
 pub mod ActionsFound

@@ -22,24 +22,12 @@ pub struct TcAction<'a> {
 }
 
 /// The kind texts that were seen in an action so far.
+// Three states: that there are several may be told only when every text behind them was looked at too.
 #[derive(Clone, Copy)]
 enum Seen<'a> {
     Nothing,
     One(&'a str),
     Several,
-}
-
-/// What is wrong with an action as a whole.
-fn action_fault(cause: Cause, place: usize) -> Fault
-    ensures { result ≡ record { cause = cause; place = place; layer = Layer.Action; need = 0; number = 0 } }
-{
-    Fault {
-        cause,
-        place,
-        layer: Layer::Action,
-        need: 0,
-        number: 0,
-    }
 }
 
 /// The kind text of an action. Every head and every kind text is looked at first, and then that there is just one.
@@ -61,22 +49,10 @@ fn kind_of<'a>(action: &NlaBuffer<'a>) -> Result<&'a str, Fault>
         }
     }
     match seen {
-        Seen::Nothing => Err(action_fault(Cause::NoKind, action.place)),
+        Seen::Nothing => Err(Fault::new(Cause::NoKind, action.place, Layer::Action)),
         Seen::One(text) => Ok(text),
-        Seen::Several => Err(action_fault(Cause::SeveralKinds, action.place)),
+        Seen::Several => Err(Fault::new(Cause::SeveralKinds, action.place, Layer::Action)),
     }
-}
-
-/// An action with its kind.
-fn with_kind<'a>(buf: &NlaBuffer<'a>) -> Result<TcAction<'a>, Fault>
-    ensures { action_heard result ≡ action_found buf.now }
-{
-    let kind = kind_of(buf)?;
-    Ok(TcAction {
-        tab: buf.kind(),
-        kind,
-        attributes: *buf,
-    })
 }
 
 impl<'a> TcAction<'a> {
@@ -85,6 +61,11 @@ impl<'a> TcAction<'a> {
         ensures found { action_heard result ≡ action_found buf.now }
         ensures reads { InMemory buf.now → (m : Meaning) → action_reads m result ≡ read_action m buf.now.place buf.now.word buf.now.value.now }
     {
-        with_kind(buf)
+        let kind = kind_of(buf)?;
+        Ok(TcAction {
+            tab: buf.kind(),
+            kind,
+            attributes: *buf,
+        })
     }
 }

@@ -8,21 +8,26 @@ ghost use Rattle.tc_filter.specs.ActionAttributes.{attribute_heard, attribute_by
 use netlink::buffer::NlaBuffer;
 use netlink::default_nla::DefaultNla;
 use payload::error::DecodeError;
-use payload::parsers::parse_u32;
+use payload::parsers::parse;
 use payload::text::parse_string;
 
 /// The type of a kind.
 pub const TCA_ACT_KIND: u16 = 1;
 
-const TCA_ACT_OPTIONS: u16 = 2;
+/// The type of an action's options.
+pub const TCA_ACT_OPTIONS: u16 = 2;
 
-const TCA_ACT_INDEX: u16 = 3;
+/// The type of an action's number.
+pub const TCA_ACT_INDEX: u16 = 3;
 
-const TCA_ACT_STATS: u16 = 4;
+/// The type of statistics.
+pub const TCA_ACT_STATS: u16 = 4;
 
-const TCA_ACT_COOKIE: u16 = 6;
+/// The type of a cookie.
+pub const TCA_ACT_COOKIE: u16 = 6;
 
-const TCA_ACT_IN_HW_COUNT: u16 = 10;
+/// The type of a count of hardware.
+pub const TCA_ACT_IN_HW_COUNT: u16 = 10;
 
 /// An attribute of an action. What is not a number is a part of the filter.
 #[derive(Clone, Copy)]
@@ -43,31 +48,20 @@ pub enum TcActionAttribute<'a> {
     Other(DefaultNla<'a>),
 }
 
-/// An attribute by the type in its word.
-fn attribute_of_type<'a>(buf: &NlaBuffer<'a>) -> Result<TcActionAttribute<'a>, DecodeError>
-    ensures heard { attribute_heard result ≡ attribute_by (type_of buf.now.word) buf.now }
-    ensures part { IfOk result (PartOf buf.now) }
-{
-    match buf.kind() {
-        TCA_ACT_KIND => Ok(TcActionAttribute::Kind(parse_string(buf.value)?)),
-        TCA_ACT_OPTIONS => Ok(TcActionAttribute::Options(*buf)),
-        TCA_ACT_INDEX => Ok(TcActionAttribute::Index(parse_u32(buf.value)?)),
-        TCA_ACT_STATS => Ok(TcActionAttribute::Stats(buf.value)),
-        TCA_ACT_COOKIE => Ok(TcActionAttribute::Cookie(buf.value)),
-        TCA_ACT_IN_HW_COUNT => Ok(TcActionAttribute::InHwCount(parse_u32(buf.value)?)),
-        _ => Ok(TcActionAttribute::Other(DefaultNla {
-            word: buf.word,
-            value: buf.value,
-        })),
-    }
-}
-
 impl<'a> TcActionAttribute<'a> {
     /// Reads an attribute, as far as no book is asked: a list of options is handed out as it stands.
     pub fn parse(buf: &NlaBuffer<'a>) -> Result<TcActionAttribute<'a>, DecodeError>
         ensures reads { (m : Meaning) (k : List ℕ) → attribute_reads m k buf.now.place result ≡ read_attribute m k buf.now.place buf.now.word buf.now.value.now }
         ensures part { IfOk result (PartOf buf.now) }
     {
-        attribute_of_type(buf)
+        match buf.kind() {
+            TCA_ACT_KIND => Ok(TcActionAttribute::Kind(parse_string(buf.value)?)),
+            TCA_ACT_OPTIONS => Ok(TcActionAttribute::Options(*buf)),
+            TCA_ACT_INDEX => Ok(TcActionAttribute::Index(parse::<u32, 4>(buf.value)?)),
+            TCA_ACT_STATS => Ok(TcActionAttribute::Stats(buf.value)),
+            TCA_ACT_COOKIE => Ok(TcActionAttribute::Cookie(buf.value)),
+            TCA_ACT_IN_HW_COUNT => Ok(TcActionAttribute::InHwCount(parse::<u32, 4>(buf.value)?)),
+            _ => Ok(TcActionAttribute::Other(DefaultNla::from(*buf))),
+        }
     }
 }

@@ -2,8 +2,13 @@
 ghost use Rattle.std.specs.Prelude.{◌≡◌};
 ghost use Rattle.tc_filter.specs.Leaves.{content_meant, attribute_content, option_content};
 
-use crate::action_attribute::TcActionAttribute;
-use crate::cls_u32::TcFilterU32Option;
+use crate::action_attribute::{
+    TCA_ACT_COOKIE, TCA_ACT_IN_HW_COUNT, TCA_ACT_INDEX, TCA_ACT_STATS, TcActionAttribute,
+};
+use crate::cls_u32::{
+    TCA_U32_CLASSID, TCA_U32_DIVISOR, TCA_U32_FLAGS, TCA_U32_HASH, TCA_U32_INDEV, TCA_U32_LINK,
+    TCA_U32_MARK, TCA_U32_PCNT, TCA_U32_POLICE, TcFilterU32Option,
+};
 use crate::leaf::Leaf;
 use netlink::buffer::NlaBuffer;
 use netlink::default_nla::DefaultNla;
@@ -31,10 +36,13 @@ pub fn attribute_content<'a>(attribute: TcActionAttribute<'a>) -> Content<'a>
     match attribute {
         TcActionAttribute::Kind(text) => Content::Leaf(Leaf::Kind(text)),
         TcActionAttribute::Options(nest) => Content::Nest(nest),
-        TcActionAttribute::Index(number) => Content::Leaf(Leaf::Number(3, number)),
-        TcActionAttribute::Stats(value) => bytes(4, value),
-        TcActionAttribute::Cookie(value) => bytes(6, value),
-        TcActionAttribute::InHwCount(number) => Content::Leaf(Leaf::Number(10, number)),
+        TcActionAttribute::Index(number) => Content::Leaf(Leaf::Number(TCA_ACT_INDEX, number)),
+        TcActionAttribute::Stats(value) => bytes(TCA_ACT_STATS, value),
+        TcActionAttribute::Cookie(value) => bytes(TCA_ACT_COOKIE, value),
+        TcActionAttribute::InHwCount(number) => Content::Leaf(Leaf::Number(
+            TCA_ACT_IN_HW_COUNT,
+            number,
+        )),
         TcActionAttribute::Other(nla) => Content::Leaf(Leaf::Bytes(nla)),
     }
 }
@@ -44,17 +52,20 @@ pub fn option_content<'a>(option: TcFilterU32Option<'a>) -> Content<'a>
     ensures { content_meant result ≡ option_content option.entry }
 {
     match option {
-        TcFilterU32Option::ClassId(handle) => Content::Leaf(Leaf::Number(1, handle.number())),
-        TcFilterU32Option::Hash(number) => Content::Leaf(Leaf::Number(2, number)),
-        TcFilterU32Option::Link(number) => Content::Leaf(Leaf::Number(3, number)),
-        TcFilterU32Option::Divisor(number) => Content::Leaf(Leaf::Number(4, number)),
+        TcFilterU32Option::ClassId(handle) => Content::Leaf(Leaf::Number(
+            TCA_U32_CLASSID,
+            u32::from(handle),
+        )),
+        TcFilterU32Option::Hash(number) => Content::Leaf(Leaf::Number(TCA_U32_HASH, number)),
+        TcFilterU32Option::Link(number) => Content::Leaf(Leaf::Number(TCA_U32_LINK, number)),
+        TcFilterU32Option::Divisor(number) => Content::Leaf(Leaf::Number(TCA_U32_DIVISOR, number)),
         TcFilterU32Option::Selector(selector) => Content::Leaf(Leaf::Selector(selector)),
-        TcFilterU32Option::Police(value) => bytes(6, value),
+        TcFilterU32Option::Police(value) => bytes(TCA_U32_POLICE, value),
         TcFilterU32Option::Action(nest) => Content::Nest(nest),
-        TcFilterU32Option::Indev(value) => bytes(8, value),
-        TcFilterU32Option::Pnct(value) => bytes(9, value),
-        TcFilterU32Option::Mark(value) => bytes(10, value),
-        TcFilterU32Option::Flags(number) => Content::Leaf(Leaf::Number(11, number)),
+        TcFilterU32Option::Indev(value) => bytes(TCA_U32_INDEV, value),
+        TcFilterU32Option::Pnct(value) => bytes(TCA_U32_PCNT, value),
+        TcFilterU32Option::Mark(value) => bytes(TCA_U32_MARK, value),
+        TcFilterU32Option::Flags(number) => Content::Leaf(Leaf::Number(TCA_U32_FLAGS, number)),
         TcFilterU32Option::Other(nla) => Content::Leaf(Leaf::Bytes(nla)),
     }
 }

@@ -3,16 +3,12 @@ ghost use Rattle.std.specs.Prelude.{◌≡◌, [], ◌∷◌, ◌++◌, length, 
 ghost use Rattle.tc_records.specs.Selectors.{selector_form};
 ghost use Rattle.tc_filter.specs.Leaves.{leaf_word, leaf_payload};
 
+use crate::action_attribute::TCA_ACT_KIND;
+use crate::cls_u32::TCA_U32_SEL;
 use netlink::default_nla::DefaultNla;
 use netlink::nla::Nla;
-use netlink::overwrite::{fill, overwrite};
+use netlink::overwrite::fill;
 use tc_records::selector::TcU32Selector;
-
-/// The type of a selector.
-const TCA_U32_SEL: u16 = 5;
-
-/// The type of a kind.
-const TCA_ACT_KIND: u16 = 1;
 
 /// An attribute with no attributes inside, as it is written.
 #[derive(Clone, Copy)]
@@ -27,13 +23,6 @@ pub enum Leaf<'a> {
     Bytes(DefaultNla<'a>),
 }
 
-/// How many bytes a text and one zero are.
-fn text_len(text: &str) -> usize
-    ensures { result ≡ length (text.now ++ 0 ∷ []) }
-{
-    text.len() + 1
-}
-
 /// Writes a text and one zero into a buffer of just their length.
 fn fill_text(buffer: &mut [u8], text: &str) -> bool
     ensures value { result ≡ (length (text.now ++ 0 ∷ []) == length buffer.old) }
@@ -42,20 +31,8 @@ fn fill_text(buffer: &mut [u8], text: &str) -> bool
     let end = text.len();
     let whole = end + 1 == buffer.len();
     if whole {
-        overwrite(buffer, 0, text.as_bytes());
-        overwrite(buffer, end, &[0]);
-    }
-    whole
-}
-
-/// Writes a selector into a buffer of just its length.
-fn fill_selector(buffer: &mut [u8], selector: &TcU32Selector<'_>) -> bool
-    ensures value { result ≡ (length (selector_form selector.now) == length buffer.old) }
-    ensures after { buffer.new ≡ (if nat_eq (length (selector_form selector.now)) (length buffer.old) then selector_form selector.now else buffer.old) }
-{
-    let whole = selector.buffer_len() == buffer.len();
-    if whole {
-        let _ = selector.emit(buffer);
+        buffer[..end].copy_from_slice(text.as_bytes());
+        buffer[end] = 0;
     }
     whole
 }
@@ -68,7 +45,7 @@ impl<'a> Nla for Leaf<'a> {
     fn value_len(&self) -> usize {
         match self {
             Leaf::Number(_, _) => 4,
-            Leaf::Kind(text) => text_len(text),
+            Leaf::Kind(text) => text.len() + 1,
             Leaf::Selector(selector) => selector.buffer_len(),
             Leaf::Bytes(nla) => nla.value_len(),
         }
@@ -87,7 +64,9 @@ impl<'a> Nla for Leaf<'a> {
         match self {
             Leaf::Number(_, number) => fill(buffer, &number.to_le_bytes()),
             Leaf::Kind(text) => fill_text(buffer, text),
-            Leaf::Selector(selector) => fill_selector(buffer, selector),
+            Leaf::Selector(selector) => {
+                selector.buffer_len() == buffer.len() && selector.emit(buffer).is_ok()
+            }
             Leaf::Bytes(nla) => nla.emit_value(buffer),
         }
     }

@@ -1,13 +1,11 @@
 use Rattle.std.proofs.Common.{◌≡◌, Err, sym, ap, ◌∙◌}
 use Rattle.std.proofs.lemmas.Result.{err_from_is_err_and}
 use Rattle.model.specs.Faults.{numbers}
-use Rattle.model.specs.Reading.{kinds}
 use Rattle.model.specs.Attributes.{type_of}
 use Rattle.model.specs.declared.fault.Fault.{Fault}
 use Rattle.netlink.specs.Walking.{ahead}
 use Rattle.tc_filter.specs.Kinds.{kind_among, kind_heard}
-use Rattle.tc_filter.specs.declared.action.Seen.{Seen}
-use Rattle.tc_filter.proofs.KindTexts.{found-one, same_layer, text-ok, text-bad, kind-more, kind-bad, several}
+use Rattle.tc_filter.proofs.KindTexts.{found-one, text-bad, kind-bad}
 use Rattle.tc_filter.proofs.action.kind_of.Goals as goal
 
 pub returns-in_err-text : goal.returns-in_err-text
@@ -22,38 +20,3 @@ returns-in_err-text c =
     ap kind_heard p.1 ∙ ap (λ (g : Fault). Err (numbers g)) p.2
     ∙ sym (kind-bad home c.loop-attribute.seen a.place a.word a.value.now (ahead c.next.new.self) one (numbers f) t)
     ∙ ap (kind_among home c.loop-attribute.seen) (sym step) ∙ c.loop-attribute.invariant.2
-
-pub loop-attribute-preserved-in-Nothing : goal.loop-attribute-preserved-in-Nothing
-loop-attribute-preserved-in-Nothing c =
-    let a = c.in_ok-attribute.attribute in
-    let home = c.args.action.now.place in
-    let one : type_of a.word ≡ 1 = sym c.kind.ensures ∙ c.if-kind-eq-TCA_ACT_KIND.true in
-    let step = found-one c.loop-attribute.attribute-iterator c.next.new.self c.in-Some.attribute a c.in_ok-attribute.was c.in-Some.ensures.steps in
-    let layer = same_layer c.loop-attribute.attribute-iterator c.next.new.self c.in-Some.attribute a c.in_ok-attribute.was c.in-Some.ensures.steps in
-    let t = text-ok a.place a.value.now c.parse_string.result c.context.result c.parse_string.ensures.text c.context.ensures c.in_ok-text.text c.in_ok-text.was in (
-      tt,
-      tt,
-      sym (kind-more home Seen.Nothing a.place a.word a.value.now (ahead c.next.new.self) one c.in_ok-text.text.now t)
-          ∙ ap (kind_among home Seen.Nothing) (sym step)
-          ∙ ap (λ (s : Seen). kind_among home s (ahead c.loop-attribute.attribute-iterator)) (sym c.in-Nothing.is)
-          ∙ c.loop-attribute.invariant.2,
-      layer ∙ c.loop-attribute.invariant.3,
-    )
-
-pub loop-attribute-preserved-in_default : goal.loop-attribute-preserved-in_default
-loop-attribute-preserved-in_default c =
-    let a = c.in_ok-attribute.attribute in
-    let home = c.args.action.now.place in
-    let seen = c.loop-attribute.seen in
-    let one : type_of a.word ≡ 1 = sym c.kind.ensures ∙ c.if-kind-eq-TCA_ACT_KIND.true in
-    let step = found-one c.loop-attribute.attribute-iterator c.next.new.self c.in-Some.attribute a c.in_ok-attribute.was c.in-Some.ensures.steps in
-    let layer = same_layer c.loop-attribute.attribute-iterator c.next.new.self c.in-Some.attribute a c.in_ok-attribute.was c.in-Some.ensures.steps in
-    let t = text-ok a.place a.value.now c.parse_string.result c.context.result c.parse_string.ensures.text c.context.ensures c.in_ok-text.text c.in_ok-text.was in (
-      tt,
-      tt,
-      sym (several home seen (kinds (ahead c.next.new.self)) c.in_ok-text.text.now c.in_default.not-Nothing)
-          ∙ sym (kind-more home seen a.place a.word a.value.now (ahead c.next.new.self) one c.in_ok-text.text.now t)
-          ∙ ap (kind_among home seen) (sym step)
-          ∙ c.loop-attribute.invariant.2,
-      layer ∙ c.loop-attribute.invariant.3,
-    )
