@@ -1,11 +1,11 @@
 // A filter's class and selector, field by field.
-use crate::types::{TCA_U32_CLASSID, TCA_U32_SEL};
 use model::fault::Layer;
 use netlink::buffer::NlaBuffer;
 use netlink::walker::NlasIterator;
 use payload::parsers::parse;
 use std::fmt;
 use std::fmt::Display;
+use tc_filter::cls_u32::{TCA_U32_CLASSID, TCA_U32_SEL};
 use tc_records::cls_u32::TcU32Key;
 use tc_records::header::TcHandle;
 use tc_records::record::Record;

@@ -1,5 +1,4 @@
 // The shipped book at work: every action option of a filter, judged by the kind of its action.
-use crate::types::{TCA_ACT_KIND, TCA_ACT_OPTIONS, TCA_U32_ACT};
 use model::fault::Layer;
 use netlink::buffer::NlaBuffer;
 use netlink::walker::NlasIterator;
@@ -8,6 +7,8 @@ use std::fmt;
 use std::fmt::Display;
 use tc::book::Book;
 use tc::shipped::ShippedBook;
+use tc_filter::action_attribute::{TCA_ACT_KIND, TCA_ACT_OPTIONS};
+use tc_filter::cls_u32::TCA_U32_ACT;
 use tc_options::mirror::TcActionMirrorOption;
 use tc_options::option::TcActionOption;
 use tc_records::action::TcActionGeneric;

@@ -2,13 +2,14 @@
 ghost use Rattle.std.specs.Prelude.{◌≡◌};
 ghost use Rattle.walkthrough.specs.Nests.{layer_inside};
 
-use crate::types::{TCA_ACT_KIND, TCA_ACT_OPTIONS, TCA_U32_ACT};
 use model::fault::{Fault, Layer};
 use netlink::buffer::NlaBuffer;
 use netlink::walker::NlasIterator;
 use payload::text::parse_string;
 use std::fmt;
 use std::fmt::Display;
+use tc_filter::action_attribute::{TCA_ACT_KIND, TCA_ACT_OPTIONS};
+use tc_filter::cls_u32::TCA_U32_ACT;
 
 /// The layer of the attributes that the payload of an attribute holds, where it holds any: a list of actions, an action, an action's options.
 fn inside(layer: Layer, kind: u16) -> Option<Layer>

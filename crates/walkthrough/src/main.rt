@@ -5,7 +5,6 @@ mod fields;
 mod judging;
 mod listing;
 mod rewriting;
-mod types;
 
 use fields::Fields;
 use judging::Judgements;
