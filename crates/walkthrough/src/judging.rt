@@ -94,7 +94,7 @@ impl<'a> fmt::Display for ActionOption<'a> {
 struct Action<'a>(NlaBuffer<'a>);
 
 impl<'a> Action<'a> {
-    /// The action's kind text: that of its first attribute of type 1 that is a text.
+    /// The action's kind text: that of its first kind that is a text.
     fn kind(&self) -> &'a str {
         let attributes = self.0.nested(Layer::ActionAttribute).filter_map(Result::ok);
         let mut kinds = attributes.filter(|nla| nla.kind() == TCA_ACT_KIND);

@@ -1,9 +1,8 @@
 // A filter's options, written again by the one writer.
 use model::fault::{Cause, Fault, Layer};
 use netlink::default_nla::DefaultNla;
-use netlink::traits::{Emitable, Parseable};
+use netlink::traits::Emitable;
 use netlink::walker::NlasIterator;
-use payload::error::{DecodeError, ErrorContext};
 use std::alloc::{AllocError, Global};
 use thiserror::Error;
 
@@ -23,7 +22,7 @@ pub(crate) fn rewritten(heap: Global, filter: &[u8]) -> Result<Vec<u8>, Unwritte
     let mut written = Vec::new(heap);
     for found in NlasIterator::new(filter, Layer::FilterOption) {
         let nla = found?;
-        let option = DefaultNla::parse(&nla).context(nla.place, Layer::FilterOption)?;
+        let option = DefaultNla::from(nla);
         let mut bytes = vec![in heap; 0u8; option.buffer_len()?]?;
         option.emit(bytes.as_mut_slice())?;
         written.extend_from_slice(bytes.as_slice())?;
