@@ -1,5 +1,5 @@
--- What each family's options tell is the shipped book's answer. Assumes nothing.
-use Rattle.std.proofs.Common.{◌≡◌, ℕ, zero, suc, Bool, true, false, cond, List, [], get_or, codes, Result, sym, refl, ap, ◌∙◌, arith, w8, Fits, Bor}
+-- What each kind's options tell is the shipped book's answer. Assumes nothing.
+use Rattle.std.proofs.Common.{◌≡◌, ℕ, zero, suc, Bool, true, false, cond, List, [], get_or, codes, Ok, Err, Result, sym, refl, ap, ◌∙◌, arith, w8, Fits, Bor}
 use Rattle.std.specs.Str.{bytes_eq}
 use Rattle.std.proofs.lemmas.Bool.{ne_eqb}
 use Rattle.model.specs.Numbers.{Bytes, Octets, le, be}
@@ -16,12 +16,11 @@ use Rattle.tc_options.specs.Mirrors.{mirror_by, mirror_option, mirror_word, mirr
 use Rattle.tc_options.specs.Nats.{nat_by, nat_option, nat_word, nat_payload}
 use Rattle.tc_options.specs.TunnelKeys.{tunnel_key_by, tunnel_key_option, tunnel_key_word, tunnel_key_payload}
 use Rattle.tc_options.specs.declared.tunnel_key.TcActionTunnelKeyOption.TheVariants.{EncIpv6Src, EncIpv6Dst}
-use Rattle.tc_options.specs.declared.mirror.TcActionMirrorOption.{TcActionMirrorOption}
-use Rattle.tc_options.specs.declared.nat.TcActionNatOption.{TcActionNatOption}
-use Rattle.tc_options.specs.declared.tunnel_key.TcActionTunnelKeyOption.{TcActionTunnelKeyOption}
-use Rattle.tc.specs.declared.shipped.Family.{Family}
-use Rattle.tc.specs.declared.shipped.Family.TheVariants.{Mirror, Nat, TunnelKey, Other}
-use Rattle.tc.specs.Families.{family_of, told}
+use Rattle.tc_options.specs.Carried.{carried}
+use Rattle.tc_options.specs.Options.{option_of, option_word, option_payload}
+use Rattle.tc_options.specs.declared.option.TcActionOption.{TcActionOption}
+use Rattle.tc_options.specs.declared.option.TcActionOption.TheVariants.{Mirror, Nat, TunnelKey, Other}
+use Rattle.tc.specs.Families.{told}
 use Rattle.tc.proofs.Told.{octets, record_told, exact-told, be_again, byte_again, flag_again}
 
 module _ (w : ℕ) (x : Bor Bytes) (o : Octets x.now) where
@@ -67,31 +66,23 @@ module _ (w : ℕ) (x : Bor Bytes) (o : Octets x.now) where
   pub tunnel_key-told : told tunnel_key_word tunnel_key_payload (tunnel_key_option option) ≡ judge (get_or tunnel_key_forms (type_of w) default) w x.now
   tunnel_key-told = tunnel_key-at (type_of w) refl
 
--- ── by the family that the kind names ──
-abbrev forms_of : Family → List Form
-forms_of Mirror = mirred_forms
-forms_of Nat = nat_forms
-forms_of TunnelKey = tunnel_key_forms
-forms_of Other = []
+  -- ── by the kind ──
+  carried-told : {O Q : Type 0} (f : O → Q) (word : Q → ℕ) (payload : Q → Bytes) (r : Result O Lack) → told word payload (carried f r) ≡ told (λ o. word (f o)) (λ o. payload (f o)) r
+  carried-told f word payload (Ok o) = refl
+  carried-told f word payload (Err e) = refl
 
-forms_are : (k : Bytes) → forms k ≡ forms_of (family_of k)
-forms_are k = go (bytes_eq k (codes "mirred")) (bytes_eq k (codes "nat")) (bytes_eq k (codes "tunnel_key"))
-  where
-    go : (a b c : Bool) → cond a mirred_forms (cond b nat_forms (cond c tunnel_key_forms [])) ≡ forms_of (cond a Mirror (cond b Nat (cond c TunnelKey Other)))
-    go true b c = refl
-    go false true c = refl
-    go false false true = refl
-    go false false false = refl
+  by_kind : (a b c : Bool) →
+      told option_word option_payload (cond a (carried Mirror (mirror_option option)) (cond b (carried Nat (nat_option option)) (cond c (carried TunnelKey (tunnel_key_option option)) (Ok (Other (record { word = w; value = x }))))))
+      ≡ judge (get_or (cond a mirred_forms (cond b nat_forms (cond c tunnel_key_forms []))) (type_of w) default) w x.now
+  by_kind true b c = carried-told Mirror option_word option_payload (mirror_option option) ∙ mirror-told
+  by_kind false true c = carried-told Nat option_word option_payload (nat_option option) ∙ nat-told
+  by_kind false false true = carried-told TunnelKey option_word option_payload (tunnel_key_option option) ∙ tunnel_key-told
+  by_kind false false false = refl
 
-by_family : (k : Bytes) (w : ℕ) (x : Bytes) (f : Family) → f ≡ family_of k → judge (get_or (forms_of f) (type_of w) default) w x ≡ shipped k w x
-by_family k w x f e = ap (λ (l : List Form). judge (get_or l (type_of w) default) w x) (ap forms_of e ∙ sym (forms_are k))
+  pub option-told : (k : Bytes) → told option_word option_payload (option_of k option) ≡ shipped k w x.now
+  option-told k = by_kind (bytes_eq k (codes "mirred")) (bytes_eq k (codes "nat")) (bytes_eq k (codes "tunnel_key"))
 
-module _ (k : Bytes) (w : ℕ) (x : Bor Bytes) (bytes : (i : ℕ) → Fits w8 (get_or x.now i 0)) where
-  pub mirror-answer : {r : Result TcActionMirrorOption Lack} → Mirror ≡ family_of k → r ≡ mirror_option (record { place = 0; word = w; value = x }) → told mirror_word mirror_payload r ≡ shipped k w x.now
-  mirror-answer e q = ap (told mirror_word mirror_payload) q ∙ mirror-told w x (octets x.now bytes) ∙ by_family k w x.now Mirror e
-
-  pub nat-answer : {r : Result TcActionNatOption Lack} → Nat ≡ family_of k → r ≡ nat_option (record { place = 0; word = w; value = x }) → told nat_word nat_payload r ≡ shipped k w x.now
-  nat-answer e q = ap (told nat_word nat_payload) q ∙ nat-told w x (octets x.now bytes) ∙ by_family k w x.now Nat e
-
-  pub tunnel_key-answer : {r : Result TcActionTunnelKeyOption Lack} → TunnelKey ≡ family_of k → r ≡ tunnel_key_option (record { place = 0; word = w; value = x }) → told tunnel_key_word tunnel_key_payload r ≡ shipped k w x.now
-  tunnel_key-answer e q = ap (told tunnel_key_word tunnel_key_payload) q ∙ tunnel_key-told w x (octets x.now bytes) ∙ by_family k w x.now TunnelKey e
+-- what was read tells the shipped book's answer
+pub option-answer : (k : Bytes) (w : ℕ) (x : Bor Bytes) → ((i : ℕ) → Fits w8 (get_or x.now i 0)) → {r : Result TcActionOption Lack} → r ≡ option_of k (record { place = 0; word = w; value = x }) →
+    told option_word option_payload r ≡ shipped k w x.now
+option-answer k w x bytes q = ap (told option_word option_payload) q ∙ option-told w x (octets x.now bytes) k

@@ -1,7 +1,10 @@
 // What a book is: it judges action options.
 ghost use Rattle.std.specs.Prelude.{◌≡◌};
 ghost use Rattle.model.specs.Book.{Meaning, BookLaws, judgement, writes, memory_after_writing};
-ghost use Rattle.tc.specs.Judgements.{judged};
+ghost use Rattle.tc.specs.Judgements.{judged, refusal_of, refusal_placed};
+
+use model::fault::{Cause, Fault, Layer};
+use payload::error::{DecodeError, ErrorContext};
 
 /// What is written of an accepted option: its word, and its payload's length.
 #[derive(Clone, Copy)]
@@ -19,6 +22,36 @@ pub struct Refusal {
     pub number: u8,
     /// The book's figure to it, as the payload length that it wants.
     pub need: usize,
+}
+
+/// An option that can't be read is refused by the number of its cause, with the length wanted.
+impl From<DecodeError> for Refusal {
+    ghost from_gives = { λ error refusal. refusal ≡ refusal_of error };
+
+    fn from(error: DecodeError) -> Refusal {
+        Refusal {
+            number: u8::from(error.cause),
+            need: error.need,
+        }
+    }
+}
+
+/// A refusal is a fault where the option stands: cause 14, with the book's own number and figure. (For any `T` it would be an impl of another crate's trait for another crate's type.)
+impl ErrorContext<Judged> for Result<Judged, Refusal> {
+    ghost outcome = { refusal_placed };
+
+    fn context(self, place: usize, layer: Layer) -> Result<Judged, Fault> {
+        match self {
+            Ok(judged) => Ok(judged),
+            Err(refusal) => Err(Fault {
+                cause: Cause::RefusedByBook,
+                place,
+                layer,
+                need: refusal.need,
+                number: refusal.number,
+            }),
+        }
+    }
 }
 
 /// A book judges action options, the attributes in the options of an action. It is asked with the kind text of the action, without the

@@ -1,6 +1,5 @@
 // A pile of books, for the tests: a book that holds two others by value, and a book that refuses everything for its top.
-ghost use Rattle.std.specs.Prelude.{◌≡◌, codes};
-ghost use Rattle.std.specs.Str.{bytes_eq};
+ghost use Rattle.std.specs.Prelude.{codes};
 ghost use Rattle.tc.specs.Piles.{closed, piled};
 ghost use Rattle.tc.specs.PilesLemmas.{piled_laws, closed_laws};
 
@@ -15,20 +14,13 @@ struct Over<F, B> {
     below: B,
 }
 
-/// Whether a kind text is `gact`.
-fn is_gact(kind: &[u8]) -> bool
-    ensures { result ≡ bytes_eq kind.now (codes "gact") }
-{
-    kind == b"gact".as_slice()
-}
-
 impl<F: Book, B: Book> Book for Over<F, B> {
     ghost meaning = { λ s. piled (codes "gact") (F.Book.meaning s.top) (B.Book.meaning s.below) };
 
     ghost lawful = { λ s. piled_laws (codes "gact") (F.Book.meaning s.top) (B.Book.meaning s.below) (F.Book.lawful s.top) (B.Book.lawful s.below) };
 
     fn judge(&self, kind: &[u8], word: u16, payload: &[u8]) -> Result<Judged, Refusal> {
-        if is_gact(kind) {
+        if kind == b"gact".as_slice() {
             self.top.judge(kind, word, payload)
         } else {
             self.below.judge(kind, word, payload)
@@ -36,7 +28,7 @@ impl<F: Book, B: Book> Book for Over<F, B> {
     }
 
     fn write(&self, kind: &[u8], word: u16, payload: &[u8], memory: &mut [u8]) -> bool {
-        if is_gact(kind) {
+        if kind == b"gact".as_slice() {
             self.top.write(kind, word, payload, memory)
         } else {
             self.below.write(kind, word, payload, memory)

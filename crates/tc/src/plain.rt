@@ -3,6 +3,7 @@ ghost use Rattle.model.specs.Book.{plain};
 ghost use Rattle.model.proofs.Books.{plain_laws};
 
 use crate::book::{Book, Judged, Refusal};
+use netlink::overwrite::fill;
 
 /// The book that accepts every option as a default attribute: its word with the flags, and its payload. It refuses nothing.
 #[derive(Clone, Copy)]
@@ -21,10 +22,6 @@ impl Book for PlainBook {
     }
 
     fn write(&self, kind: &[u8], word: u16, payload: &[u8], memory: &mut [u8]) -> bool {
-        let whole = payload.len() == memory.len();
-        if whole {
-            memory.copy_from_slice(payload);
-        }
-        whole
+        fill(memory, payload)
     }
 }
