@@ -18,29 +18,17 @@ pub enum Command {
     Usage,
 }
 
-/// Whether a word is just this one.
-fn is_word(word: &[u8], name: &[u8]) -> bool
-    ensures { result ≡ bytes_eq word.now name.now }
-{
-    word == name
-}
-
 impl Command {
     /// The command that a word names, if this many words behind it suit the command; else the usage.
     pub fn named(word: &str, more: usize) -> Command
         ensures { result ≡ command_of word.now more }
     {
-        let word = word.as_bytes();
-        if is_word(word, b"read") && more >= 1 {
-            Command::Read
-        } else if is_word(word, b"write") && more == 1 {
-            Command::Write
-        } else if is_word(word, b"same") && more == 2 {
-            Command::Same
-        } else if is_word(word, b"lines") && more == 0 {
-            Command::Lines
-        } else {
-            Command::Usage
+        match (word, more) {
+            ("read", 1..) => Command::Read,
+            ("write", 1) => Command::Write,
+            ("same", 2) => Command::Same,
+            ("lines", 0) => Command::Lines,
+            _ => Command::Usage,
         }
     }
 }

@@ -1,45 +1,51 @@
--- Steps of the loops that take blanks away from a text's front and back. Assumes nothing.
-use Rattle.std.proofs.Common.{◌≡◌, ℕ, ◌+◌, ◌-◌, ◌<◌, ◌≤◌, Bool, true, false, cond, List, [], ◌∷◌, ◌++◌, reverse, length, get_or, take, drop, sym, ap, ◌∙◌, arith}
+-- Where the blanks before and behind a text end. Assumes nothing.
+use Rattle.std.proofs.Common.{◌≡◌, ℕ, ◌+◌, ◌-◌, ◌≤◌, Bool, true, false, not, cond, List, [], ◌∷◌, ◌++◌, reverse, length, take, drop, Some, None, Option, sym, ap, refl, ◌∙◌, arith, nat_lt}
 use mathlib.Core.List.{reverse-append, reverse-reverse}
-use Rattle.std.proofs.lemmas.List.{take_rest, take_more, take_all}
+use Rattle.std.specs.List.{position_or_len}
+use Rattle.std.proofs.lemmas.Grind.{common_steps}
+use Rattle.std.proofs.lemmas.List.{take-append-drop, length-reverse, length-drop}
+use Rattle.std.proofs.Math.ListN.{drop_of_length-le}
+use Rattle.std.proofs.Math.Seq.{take-append_seam}
+use Rattle.std.proofs.lemmas.Bool.Decides.{nat_tests}
+use Rattle.std.proofs.lemmas.Option.{cond_some}
 use Rattle.hexadecimal.specs.PlainText.{blank, from_start}
 
-pub front_step : (xs whole : List ℕ) → 1 ≤ length xs → true ≡ blank (get_or xs 0 0) → from_start xs ≡ whole →
-    from_start (take (length xs - 1) (drop 1 xs)) ≡ whole
-front_step [] whole h b inv = absurd (omega arith)
-front_step (x ∷ xs) whole h b inv =
-    ap from_start (take_rest (x ∷ xs) 1) ∙ (ap (λ (v : Bool). cond v (from_start xs) (x ∷ xs)) b ∙ inv)
+-- how many blanks a text begins with
+abbrev pub front_len : List ℕ → ℕ
+front_len xs = position_or_len (λ c. not (blank c)) xs
 
-pub front_end : (xs whole : List ℕ) → length xs < 1 → from_start xs ≡ whole → xs ≡ whole
-front_end [] whole h inv = inv
-front_end (x ∷ xs) whole h inv = absurd (omega arith)
+-- the place of the first character that is no blank
+abbrev pub first : List ℕ → Option ℕ
+first xs = cond (nat_lt (front_len xs) (length xs)) (Some (front_len xs)) None
 
--- the last character, in front of the others backwards
-turned : (xs : List ℕ) → 1 ≤ length xs → reverse xs ≡ get_or xs (length xs - 1) 0 ∷ reverse (take (length xs - 1) xs)
-turned xs h =
-    let n = length xs - 1 in
-    let low : n < length xs = omega arith in
-    let e : n + 1 ≡ length xs = omega arith in
-    let split : xs ≡ take n xs ++ (get_or xs n 0 ∷ []) =
-    sym (take_all (n + 1) xs (omega arith)) ∙ take_more xs n 0 low in
-    ap reverse split ∙ reverse-append (take n xs) (get_or xs n 0 ∷ [])
+one_more : (x : ℕ) (xs : List ℕ) (n : ℕ) → drop n xs ≡ drop (1 + n) (x ∷ xs)
+one_more x xs n = grind (arith, common_steps)
 
-pub back_step : (xs whole : List ℕ) → 1 ≤ length xs → true ≡ blank (get_or xs (length xs - 1) 0) →
-    from_start (reverse xs) ≡ whole → from_start (reverse (take (length xs - 1) xs)) ≡ whole
-back_step xs whole h b inv =
-    let ys = reverse (take (length xs - 1) xs) in
-    let l = get_or xs (length xs - 1) 0 in
-    ap (λ (v : Bool). cond v (from_start ys) (l ∷ ys)) b ∙ (sym (ap from_start (turned xs h)) ∙ inv)
+front : (xs : List ℕ) → from_start xs ≡ drop (front_len xs) xs
+front [] = refl
+front (x ∷ xs) =
+    let step : (b : Bool) → cond b (from_start xs) (x ∷ xs) ≡ drop (cond (not (not b)) (1 + front_len xs) 0) (x ∷ xs) =
+    λ b. elim b as (λ b. cond b (from_start xs) (x ∷ xs) ≡ drop (cond (not (not b)) (1 + front_len xs) 0) (x ∷ xs)) [ true ↦ front xs ∙ one_more x xs (front_len xs) | false ↦ refl ] in
+    step (blank x)
 
-pub back_stop : (xs whole : List ℕ) → 1 ≤ length xs → false ≡ blank (get_or xs (length xs - 1) 0) →
-    from_start (reverse xs) ≡ whole → xs ≡ reverse whole
-back_stop xs whole h b inv =
-    let ys = reverse (take (length xs - 1) xs) in
-    let l = get_or xs (length xs - 1) 0 in
-    let stays : from_start (reverse xs) ≡ reverse xs =
-    ap from_start (turned xs h) ∙ (sym (ap (λ (v : Bool). cond v (from_start ys) (l ∷ ys)) b) ∙ sym (turned xs h)) in
-    sym (reverse-reverse xs) ∙ (sym (ap reverse stays) ∙ ap reverse inv)
+pub front_at : (xs : List ℕ) (i : ℕ) → first xs ≡ Some i → from_start xs ≡ drop i xs
+front_at xs i h = front xs ∙ ap (λ n. drop n xs) (cond_some _ _ _ h).1
 
-pub back_end : (xs whole : List ℕ) → length xs < 1 → from_start (reverse xs) ≡ whole → xs ≡ reverse whole
-back_end [] whole h inv = ap reverse inv
-back_end (x ∷ xs) whole h inv = absurd (omega arith)
+none_is : (p n : ℕ) → cond (nat_lt p n) (Some p) None ≡ None → n ≤ p
+none_is p n h = grind (arith, nat_tests)
+
+pub front_none : (xs : List ℕ) → first xs ≡ None → from_start xs ≡ []
+front_none xs h = front xs ∙ drop_of_length-le xs (none_is (front_len xs) (length xs) h)
+
+-- the others backwards, from a place on: all but so many
+turned : (xs : List ℕ) (i : ℕ) → take (length xs - i) xs ≡ reverse (drop i (reverse xs))
+turned xs i =
+    let ys = reverse xs in
+    let back = reverse (drop i ys) in
+    let whole : xs ≡ back ++ reverse (take i ys) =
+    sym (reverse-reverse xs) ∙ (sym (ap reverse (take-append-drop i ys)) ∙ reverse-append (take i ys) (drop i ys)) in
+    let many : length xs - i ≡ length back = grind (arith, common_steps, length-reverse, length-drop) in
+    ap (λ n. take n xs) many ∙ (ap (take (length back)) whole ∙ take-append_seam back (reverse (take i ys)))
+
+pub back_at : (xs : List ℕ) (i : ℕ) → first (reverse xs) ≡ Some i → take (length xs - i) xs ≡ reverse (from_start (reverse xs))
+back_at xs i h = turned xs i ∙ sym (ap reverse (front_at (reverse xs) i h))

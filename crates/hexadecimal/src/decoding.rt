@@ -47,17 +47,14 @@ pub fn decode(text: &[u8], bytes: &mut Vec<u8>) -> Result<(), HexError>
     ensures { Decodes text.now result bytes.new.items }
 {
     bytes.clear();
-    let mut left = text;
-    while let [high, low, rest @ ..] = left {
+    for pair in text.chunks(2) {
+        let [high, low] = pair else {
+            return Err(HexError::NotHex);
+        };
         match byte(*high, *low) {
             Some(found) => bytes.push(found)?,
             None => return Err(HexError::NotHex),
         }
-        left = rest;
     }
-    if left.is_empty() {
-        Ok(())
-    } else {
-        Err(HexError::NotHex)
-    }
+    Ok(())
 }

@@ -6,6 +6,7 @@ ghost use Rattle.hexadecimal.specs.Hex.{digit, value_of};
 pub fn digit_value(character: u8) -> Option<u8>
     ensures { result ≡ value_of character }
 {
+    // No plainer by `char::to_digit`, which answers a `u32` that must be cast.
     match character {
         b'0'..=b'9' => Some(character - b'0'),
         b'a'..=b'f' => Some(character - b'a' + 10),
@@ -15,13 +16,9 @@ pub fn digit_value(character: u8) -> Option<u8>
 }
 
 /// The digit of a number below 16, in lower case.
-pub(crate) fn digit_of(number: u8) -> u8
+pub(crate) fn digit_of(number: u8) -> char
     requires { number < 16 }
     ensures { result ≡ digit number }
 {
-    if number < 10 {
-        b'0' + number
-    } else {
-        b'a' + (number - 10)
-    }
+    char::from_digit(u32::from(number), 16).unwrap()
 }

@@ -48,28 +48,20 @@ pub fn without_remarks(heap: Global, text: &[u8]) -> Result<Vec<u8>, AllocError>
 fn without_front(text: &[u8]) -> &[u8]
     ensures { result.now ≡ from_start text.now }
 {
-    let mut left = text;
-    while let [first, rest @ ..] = left {
-        if !is_blank(*first) {
-            return left;
-        }
-        left = rest;
+    match text.iter().position(|c| !is_blank(*c)) {
+        Some(first) => &text[first..],
+        None => &[],
     }
-    left
 }
 
 /// The text without the blanks behind it.
 fn without_back(text: &[u8]) -> &[u8]
     ensures { result.now ≡ until_end text.now }
 {
-    let mut left = text;
-    while let [rest @ .., last] = left {
-        if !is_blank(*last) {
-            return left;
-        }
-        left = rest;
+    match text.iter().rev().position(|c| !is_blank(*c)) {
+        Some(behind) => &text[..text.len() - behind],
+        None => &[],
     }
-    left
 }
 
 /// The text without the blanks before and behind it.

@@ -1,5 +1,6 @@
 // `lines`: an answer to each line of the standard input.
 use crate::files::Trouble;
+use crate::tool::Tool;
 use crate::writing::write_form;
 use filter::reading::{Counts, read};
 use hexadecimal::decoding::decode;
@@ -69,17 +70,14 @@ impl Desk {
     }
 }
 
-/// Answers each line of the standard input with a line.
-pub(crate) fn answer_lines<W: Write>(rt: &HostRuntime, out: &mut W) -> io::Result<()> {
-    let mut input = BufReader::new(rt.alloc(), rt.stdin())?;
-    let mut desk = Desk::new(rt.alloc());
-    let mut line = Vec::new(rt.alloc());
-    for _ in 0..u64::MAX {
-        line.clear();
-        if input.read_until(b'\n', &mut line)? == 0 {
-            break;
+impl<'r, W: Write> Tool<'r, W> {
+    /// Answers each line of the standard input with a line.
+    pub(crate) fn answer_lines(&mut self) -> io::Result<()> {
+        let input = BufReader::new(self.rt.alloc(), self.rt.stdin())?;
+        let mut desk = Desk::new(self.rt.alloc());
+        for line in input.split(self.rt.alloc(), b'\n') {
+            desk.answer(line?.as_slice(), &mut self.out)?;
         }
-        desk.answer(line.as_slice(), out)?;
+        Ok(())
     }
-    Ok(())
 }

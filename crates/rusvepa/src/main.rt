@@ -5,65 +5,52 @@ mod files;
 mod lines;
 mod reading;
 mod sameness;
+mod tool;
 mod writing;
 
 use commands::command::Command;
 use commands::usage::USAGE;
-use lines::answer_lines;
-use reading::read_files;
-use sameness::compare_files;
 use std::io::{BufWriter, Write};
 use std::process::ExitCode;
 use std::{env, io};
-use writing::write_file;
+use tool::Tool;
 
-/// Does what a command says with its files. Answers whether all went well.
-fn obey<W: Write>(
-    rt: &HostRuntime,
-    out: &mut W,
-    command: Command,
-    files: &[String],
-) -> io::Result<bool> {
-    match (command, files) {
-        (Command::Read, files) => read_files(rt, out, files),
-        (Command::Write, [file]) => write_file(rt, out, file.as_str()),
-        (Command::Same, [first, second]) => {
-            compare_files(rt, out, first.as_str(), second.as_str())
-        }
-        (Command::Lines, []) => {
-            answer_lines(rt, out)?;
-            Ok(true)
-        }
-        _ => {
-            out.write_all(USAGE.as_bytes())?;
-            Ok(false)
+impl<'r, W: Write> Tool<'r, W> {
+    /// Does what a command says with its files.
+    fn obey(&mut self, command: Command, files: &[String]) -> io::Result<()> {
+        match (command, files) {
+            (Command::Read, files) => self.read_files(files),
+            (Command::Write, [file]) => self.write_file(file.as_str()),
+            (Command::Same, [first, second]) => {
+                self.compare_files(first.as_str(), second.as_str())
+            }
+            (Command::Lines, []) => self.answer_lines(),
+            _ => {
+                self.status = ExitCode::FAILURE;
+                self.out.write_all(USAGE.as_bytes())
+            }
         }
     }
 }
 
 /// Does what the words of the call say.
-fn run(rt: &HostRuntime) -> io::Result<bool> {
+fn run(rt: &HostRuntime) -> io::Result<ExitCode> {
     let words: Vec<String> = env::args(rt)?.skip(1).collect(rt.alloc())?;
-    let mut out = BufWriter::new(rt.alloc(), rt.stdout())?;
-    let done = match words.as_slice() {
-        [] => {
-            out.write_all(USAGE.as_bytes())?;
-            true
-        }
+    let mut tool = Tool::new(rt, BufWriter::new(rt.alloc(), rt.stdout())?);
+    match words.as_slice() {
+        [] => tool.out.write_all(USAGE.as_bytes())?,
         [word, files @ ..] => {
-            let command = Command::named(word.as_str(), files.len());
-            obey(rt, &mut out, command, files)?
+            tool.obey(Command::named(word.as_str(), files.len()), files)?;
         }
-    };
-    out.flush()?;
-    Ok(done)
+    }
+    tool.out.flush()?;
+    Ok(tool.status)
 }
 
 /// Ends with status 1 where something was refused; why was said.
 fn main(rt: HostRuntime) -> ExitCode {
     match run(&rt) {
-        Ok(true) => ExitCode::SUCCESS,
-        Ok(false) => ExitCode::FAILURE,
+        Ok(status) => status,
         Err(error) => {
             let _ = eprintln!(rt; "rusvepa: {error}");
             ExitCode::FAILURE

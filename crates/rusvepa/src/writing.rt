@@ -1,5 +1,6 @@
 // `write`: the written form of a file.
-use crate::files::{Trouble, complain, load};
+use crate::files::Trouble;
+use crate::tool::Tool;
 use filter::writing::{write_out, written_len};
 use shown::bytes::Bytes;
 use std::io;
@@ -14,25 +15,23 @@ pub(crate) fn write_form(filter: &[u8], written: &mut Vec<u8>) -> Result<(), Tro
     Ok(())
 }
 
-/// The written form of the filter in a file.
-fn form_of(rt: &HostRuntime, path: &str) -> Result<Vec<u8>, Trouble> {
-    let filter = load(rt, path)?;
-    let mut written = Vec::new(rt.alloc());
-    write_form(filter.as_slice(), &mut written)?;
-    Ok(written)
-}
+impl<'r, W: Write> Tool<'r, W> {
+    /// The written form of the filter in a file.
+    fn form_of(&self, path: &str) -> Result<Vec<u8>, Trouble> {
+        let filter = self.load(path)?;
+        let mut written = Vec::new(self.rt.alloc());
+        write_form(filter.as_slice(), &mut written)?;
+        Ok(written)
+    }
 
-/// Writes the written form of a file, or says why there is none. Answers whether there is one.
-pub(crate) fn write_file<W: Write>(rt: &HostRuntime, out: &mut W, path: &str) -> io::Result<bool> {
-    match form_of(rt, path) {
-        Ok(written) => {
-            let bytes = Bytes(written.as_slice());
-            writeln!(out, "{bytes}")?;
-            Ok(true)
-        }
-        Err(trouble) => {
-            complain(rt, path, &trouble)?;
-            Ok(false)
+    /// Writes the written form of a file, or says why there is none.
+    pub(crate) fn write_file(&mut self, path: &str) -> io::Result<()> {
+        match self.form_of(path) {
+            Ok(written) => {
+                let bytes = Bytes(written.as_slice());
+                writeln!(self.out, "{bytes}")
+            }
+            Err(trouble) => self.complain(path, &trouble),
         }
     }
 }

@@ -4,4 +4,5 @@
 pub mod mirror;
 pub mod nat;
 pub mod option;
+pub mod parms;
 pub mod tunnel_key;

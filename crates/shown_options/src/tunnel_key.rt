@@ -1,5 +1,4 @@
 // The options of a tunnel key action.
-use payload::ip::{Ipv4Addr, Ipv6Addr};
 use shown::address::Groups;
 use shown::attribute::AsItStands;
 use shown::record::{Head, Times};
@@ -20,26 +19,13 @@ impl fmt::Display for TunnelKey {
     }
 }
 
-/// One end of a tunnel.
+/// One end of a tunnel: its name, and its address.
 #[derive(Clone, Copy)]
-struct End4<'a>(&'a str, Ipv4Addr);
+struct End<'a, A>(&'a str, A);
 
-impl<'a> fmt::Display for End4<'a> {
+impl<'a, A: fmt::Display> fmt::Display for End<'a, A> {
     fn fmt<W: fmt::Write>(&self, f: &mut fmt::Formatter<W>) -> fmt::Result {
-        let end = self.0;
-        let address = self.1;
-        write!(f, "{end} {address}")
-    }
-}
-
-/// One end of a tunnel.
-#[derive(Clone, Copy)]
-struct End6<'a>(&'a str, Ipv6Addr<'a>);
-
-impl<'a> fmt::Display for End6<'a> {
-    fn fmt<W: fmt::Write>(&self, f: &mut fmt::Formatter<W>) -> fmt::Result {
-        let end = self.0;
-        let address = Groups(self.1);
+        let End(end, address) = self;
         write!(f, "{end} {address}")
     }
 }
@@ -62,10 +48,12 @@ impl<'a> fmt::Display for TunnelKeyOption<'a> {
         match self.0 {
             TcActionTunnelKeyOption::Tm(times) => Times(times).fmt(f),
             TcActionTunnelKeyOption::Parms(parameters) => TunnelKey(parameters).fmt(f),
-            TcActionTunnelKeyOption::EncIpv4Src(address) => End4("source", address).fmt(f),
-            TcActionTunnelKeyOption::EncIpv4Dst(address) => End4("destination", address).fmt(f),
-            TcActionTunnelKeyOption::EncIpv6Src(address) => End6("source", address).fmt(f),
-            TcActionTunnelKeyOption::EncIpv6Dst(address) => End6("destination", address).fmt(f),
+            TcActionTunnelKeyOption::EncIpv4Src(address) => End("source", address).fmt(f),
+            TcActionTunnelKeyOption::EncIpv4Dst(address) => End("destination", address).fmt(f),
+            TcActionTunnelKeyOption::EncIpv6Src(address) => End("source", Groups(address)).fmt(f),
+            TcActionTunnelKeyOption::EncIpv6Dst(address) => End("destination", Groups(address)).fmt(
+                f,
+            ),
             TcActionTunnelKeyOption::EncKeyId(id) => write!(f, "key id {id}"),
             TcActionTunnelKeyOption::EncDstPort(port) => write!(f, "destination port {port}"),
             TcActionTunnelKeyOption::NoCsum(without) => f.write_str(checksum_words(without)),

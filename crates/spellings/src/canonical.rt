@@ -6,26 +6,17 @@ use shown::bytes::Bytes;
 use std::alloc::{AllocError, Global};
 use std::io;
 use tc::shipped::ShippedBook;
+use thiserror::Error;
 use tree::whole::Reading;
 use wording::fault::Sentence;
 
 /// Why there is no written form.
-#[derive(Drop)]
+#[derive(Debug, Drop, Error)]
 enum Unwritten {
-    NoMemory,
-    Fault(Fault),
-}
-
-impl From<AllocError> for Unwritten {
-    fn from(_error: AllocError) -> Unwritten {
-        Unwritten::NoMemory
-    }
-}
-
-impl From<Fault> for Unwritten {
-    fn from(fault: Fault) -> Unwritten {
-        Unwritten::Fault(fault)
-    }
+    #[error("Not written out: no memory.")]
+    NoMemory(#[from(alloc)] AllocError),
+    #[error("Not written out.")]
+    Fault(#[from] Fault),
 }
 
 /// An entry's written form, with the shipped book.
@@ -52,8 +43,7 @@ pub(crate) fn show_canonical(rt: &HostRuntime, title: &str, filter: &[u8]) -> io
             println!(rt; "Written out, {length} bytes:")?;
             println!(rt; "{bytes}")?;
         }
-        Err(Unwritten::Fault(_)) => println!(rt; "Not written out.")?,
-        Err(Unwritten::NoMemory) => println!(rt; "Not written out: no memory.")?,
+        Err(unwritten) => println!(rt; "{unwritten}")?,
     }
     println!(rt; "")
 }

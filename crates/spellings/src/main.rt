@@ -2,9 +2,9 @@
 #![tactic(auto)]
 
 mod canonical;
-mod sample;
 
 use canonical::{compare_canonical, show_canonical};
+use sample::entry::{WITH_ZERO, WITHOUT_ZERO, entry};
 use std::io;
 
 fn main(rt: HostRuntime) -> io::Result<()> {
@@ -12,8 +12,8 @@ fn main(rt: HostRuntime) -> io::Result<()> {
         "A heat meter's mirror entry in two spellings: its kind text with and without a zero at the end."
     )?;
     println!(rt; "")?;
-    let with_zero = sample::entry(rt.alloc(), sample::WITH_ZERO)?;
-    let without_zero = sample::entry(rt.alloc(), sample::WITHOUT_ZERO)?;
+    let with_zero = entry(rt.alloc(), WITH_ZERO)?;
+    let without_zero = entry(rt.alloc(), WITHOUT_ZERO)?;
     show_canonical(&rt, "With the zero", with_zero.as_slice())?;
     show_canonical(&rt, "Without the zero", without_zero.as_slice())?;
     compare_canonical(&rt, with_zero.as_slice(), without_zero.as_slice())?;

@@ -1,4 +1,5 @@
 // An action, its attributes below it, and its options below these.
+use cursors::attributes::Attributes;
 use model::fault::Layer;
 use netlink::buffer::NlaBuffer;
 use shown::attribute::AsItStands;
@@ -8,6 +9,7 @@ use std::fmt;
 use std::fmt::Display;
 use tc_filter::action::TcAction;
 use tc_filter::action_attribute::TcActionAttribute;
+use tc_options::option::TcActionOption;
 
 /// The options of an action of a kind.
 #[derive(Clone, Copy)]
@@ -19,12 +21,11 @@ struct Options<'a> {
 impl<'a> fmt::Display for Options<'a> {
     fn fmt<W: fmt::Write>(&self, f: &mut fmt::Formatter<W>) -> fmt::Result {
         f.write_str("    options\n")?;
-        for found in self.options.nested(Layer::ActionOption) {
-            if let Ok(nla) = found {
-                if let Ok(option) = ActionOption::parse(self.kind, &nla) {
-                    writeln!(f, "      {option}")?;
-                }
-            }
+        let kind = self.kind.as_bytes();
+        let found = self.options.nested(Layer::ActionOption);
+        for option in found.filter_map(|nla| TcActionOption::parse(kind, &nla.ok()?).ok()) {
+            let option = ActionOption(option);
+            writeln!(f, "      {option}")?;
         }
         Ok(())
     }
@@ -74,12 +75,8 @@ impl<'a> fmt::Display for Action<'a> {
         let kind = self.0.kind;
         let text = Quoted(kind);
         writeln!(f, "  action {tab} {text}")?;
-        for found in self.0.attributes.nested(Layer::ActionAttribute) {
-            if let Ok(nla) = found {
-                if let Ok(attribute) = TcActionAttribute::parse(&nla) {
-                    Attribute { kind, attribute }.fmt(f)?;
-                }
-            }
+        for attribute in Attributes::new(&self.0).filter_map(Result::ok) {
+            Attribute { kind, attribute }.fmt(f)?;
         }
         Ok(())
     }

@@ -1,6 +1,8 @@
 // A selector, and its keys below it.
 use std::fmt;
+use std::fmt::Display;
 use tc_records::cls_u32::TcU32Key;
+use tc_records::record::Record;
 use tc_records::selector::TcU32Selector;
 
 /// A key of a selector.
@@ -50,10 +52,9 @@ impl<'a> Selector<'a> {
 impl<'a> fmt::Display for Selector<'a> {
     fn fmt<W: fmt::Write>(&self, f: &mut fmt::Formatter<W>) -> fmt::Result {
         self.write_numbers(f)?;
-        for i in 0..self.0.nkeys as usize {
-            if let Some(key) = self.0.key(i) {
-                Match(key).fmt(f)?;
-            }
+        let keys = self.0.keys.chunks_exact(16);
+        for key in keys.filter_map(TcU32Key::read) {
+            Match(key).fmt(f)?;
         }
         Ok(())
     }

@@ -5,13 +5,12 @@ ghost use Rattle.filter.specs.Reads.{read_counts};
 ghost use Rattle.tree.specs.Readings.{counts_told};
 
 use crate::filter_option::FilterOption;
+use cursors::options::Options;
 use filter::reading::{Counts, read};
-use model::fault::{Fault, Layer};
-use netlink::walker::NlasIterator;
+use model::fault::Fault;
 use std::fmt;
 use std::fmt::Display;
 use tc::shipped::ShippedBook;
-use tc_filter::cls_u32::TcFilterU32Option;
 
 /// A filter that is read with the shipped book, and its counts. It is shown as a tree, and a line for the counts.
 #[derive(Clone, Copy)]
@@ -32,12 +31,8 @@ impl<'a> Reading<'a> {
 
     /// Writes a line for each attribute.
     fn write_tree<W: fmt::Write>(&self, f: &mut fmt::Formatter<W>) -> fmt::Result {
-        for found in NlasIterator::new(self.filter, Layer::FilterOption) {
-            if let Ok(nla) = found {
-                if let Ok(option) = TcFilterU32Option::parse(&nla) {
-                    FilterOption(option).fmt(f)?;
-                }
-            }
+        for option in Options::new(self.filter).filter_map(Result::ok) {
+            FilterOption(option).fmt(f)?;
         }
         Ok(())
     }

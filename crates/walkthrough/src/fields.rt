@@ -1,60 +1,90 @@
 // A filter's class and selector, field by field.
+use model::fault::Layer;
 use netlink::buffer::NlaBuffer;
-use payload::parsers::parse_u32;
-use std::alloc::{AllocError, Global};
+use netlink::walker::NlasIterator;
+use payload::parsers::parse;
+use std::fmt;
+use std::fmt::Display;
+use tc_filter::cls_u32::{TCA_U32_CLASSID, TCA_U32_SEL};
+use tc_records::cls_u32::TcU32Key;
 use tc_records::header::TcHandle;
+use tc_records::record::Record;
 use tc_records::selector::TcU32Selector;
 
-/// Adds the fields of a selector, and those of its keys.
-fn selector_lines(
-    heap: Global,
-    selector: &TcU32Selector<'_>,
-    lines: &mut Vec<String>,
-) -> Result<(), AllocError> {
-    let TcU32Selector {
-        flags,
-        offshift,
-        nkeys,
-        offmask,
-        off,
-        offoff,
-        hoff,
-        hmask,
-        keys: _,
-    } = *selector;
-    lines.push(format!(in heap;
-        "selector: flags {flags:02X}, offshift {offshift}, offmask {offmask:04X}, off {off}, offoff {offoff}, hoff {hoff}, hmask {hmask:08X}, keys {nkeys}"
-    )?)?;
-    for i in 0..nkeys as usize {
-        if let Some(key) = selector.key(i) {
-            let mask = key.mask;
-            let val = key.val;
-            let off = key.off;
-            let offmask = key.offmask;
-            lines.push(format!(in heap;
-                "  key {i}: mask {mask:08X}, val {val:08X}, off {off}, offmask {offmask}"
-            )?)?;
-        }
+/// The fields of a selector, and those of its keys.
+#[derive(Clone, Copy)]
+struct Selector<'a>(TcU32Selector<'a>);
+
+impl<'a> Selector<'a> {
+    /// A line for the selector's own fields.
+    fn write_numbers<W: fmt::Write>(&self, f: &mut fmt::Formatter<W>) -> fmt::Result {
+        let TcU32Selector {
+            flags,
+            offshift,
+            nkeys,
+            offmask,
+            off,
+            offoff,
+            hoff,
+            hmask,
+            keys: _,
+        } = self.0;
+        writeln!(
+            f,
+            "selector: flags {flags:02X}, offshift {offshift}, offmask {offmask:04X}, off {off}, offoff {offoff}, hoff {hoff}, hmask {hmask:08X}, keys {nkeys}"
+        )
     }
-    Ok(())
 }
 
-/// The fields of an option that is a class or a selector.
-pub(crate) fn field_lines(heap: Global, option: &NlaBuffer<'_>) -> Result<Vec<String>, AllocError> {
-    let mut lines = Vec::new(heap);
+impl<'a> fmt::Display for Selector<'a> {
+    fn fmt<W: fmt::Write>(&self, f: &mut fmt::Formatter<W>) -> fmt::Result {
+        self.write_numbers(f)?;
+        let keys = self.0.keys.chunks_exact(16).filter_map(TcU32Key::read);
+        for (i, key) in keys.enumerate() {
+            let TcU32Key {
+                mask,
+                val,
+                off,
+                offmask,
+            } = key;
+            writeln!(
+                f,
+                "  key {i}: mask {mask:08X}, val {val:08X}, off {off}, offmask {offmask}"
+            )?;
+        }
+        Ok(())
+    }
+}
+
+/// The fields of a filter's class and selector.
+#[derive(Clone, Copy)]
+pub(crate) struct Fields<'a>(pub(crate) &'a [u8]);
+
+/// Writes the fields of an option that is a class or a selector.
+fn write_option<W: fmt::Write>(f: &mut fmt::Formatter<W>, option: &NlaBuffer<'_>) -> fmt::Result {
     match option.kind() {
-        1 => {
-            if let Ok(number) = parse_u32(option.value) {
-                let class = TcHandle::from_number(number);
-                lines.push(format!(in heap; "class {class}")?)?;
+        TCA_U32_CLASSID => {
+            if let Ok(number) = parse::<u32, 4>(option.value) {
+                let class = TcHandle::from(number);
+                writeln!(f, "class {class}")?;
             }
         }
-        5 => {
+        TCA_U32_SEL => {
             if let Ok(selector) = TcU32Selector::parse(option.value) {
-                selector_lines(heap, &selector, &mut lines)?;
+                Selector(selector).fmt(f)?;
             }
         }
         _ => {}
     }
-    Ok(lines)
+    Ok(())
+}
+
+impl<'a> fmt::Display for Fields<'a> {
+    fn fmt<W: fmt::Write>(&self, f: &mut fmt::Formatter<W>) -> fmt::Result {
+        let options = NlasIterator::new(self.0, Layer::FilterOption);
+        for option in options.filter_map(Result::ok) {
+            write_option(f, &option)?;
+        }
+        Ok(())
+    }
 }

@@ -1,122 +1,134 @@
 // The shipped book at work: every action option of a filter, judged by the kind of its action.
 use model::fault::Layer;
 use netlink::buffer::NlaBuffer;
-use netlink::traits::Parseable;
+use netlink::walker::NlasIterator;
 use payload::text::parse_string;
-use std::alloc::{AllocError, Global};
+use std::fmt;
+use std::fmt::Display;
 use tc::book::Book;
 use tc::shipped::ShippedBook;
+use tc_filter::action_attribute::{TCA_ACT_KIND, TCA_ACT_OPTIONS};
+use tc_filter::cls_u32::TCA_U32_ACT;
 use tc_options::mirror::TcActionMirrorOption;
+use tc_options::option::TcActionOption;
 use tc_records::action::TcActionGeneric;
 use tc_records::mirror::TcMirror;
 use tc_records::parameters::outcome_of;
 
-/// What the book says of one option.
-fn judgement(heap: Global, kind: &str, option: &NlaBuffer<'_>) -> Result<String, AllocError> {
-    let place = option.place;
-    let word = option.word;
-    let length = option.value.len();
-    match ShippedBook.judge(kind.as_bytes(), word, option.value) {
-        Ok(judged) => {
-            let written = judged.word;
-            let bytes = judged.length;
-            format!(in heap;
-                "place {place}, word {word:04X}, {length} bytes under \"{kind}\": written as word {written:04X} with {bytes} bytes"
-            )
-        }
-        Err(refusal) => {
-            let number = refusal.number;
-            let need = refusal.need;
-            format!(in heap;
-                "place {place}, word {word:04X}, {length} bytes under \"{kind}\": refused by number {number}, {need} bytes are wanted"
-            )
-        }
+/// The parameters of a mirror action, field by field: the common head, then what the action does, and to which interface.
+#[derive(Clone, Copy)]
+struct Parameters(TcMirror);
+
+impl fmt::Display for Parameters {
+    fn fmt<W: fmt::Write>(&self, f: &mut fmt::Formatter<W>) -> fmt::Result {
+        let TcActionGeneric {
+            index,
+            capab,
+            action: _,
+            refcnt,
+            bindcnt,
+        } = self.0.generic;
+        let outcome = outcome_of(&self.0);
+        let number = i32::from(outcome);
+        writeln!(
+            f,
+            "  index {index}, capab {capab}, outcome {outcome:?} ({number}), refcnt {refcnt}, bindcnt {bindcnt}"
+        )?;
+        let action = self.0.eaction;
+        let number = i32::from(action);
+        let interface = self.0.ifindex;
+        writeln!(
+            f,
+            "  mirror action {action:?} ({number}), interface {interface}"
+        )
     }
 }
 
-/// The common head, field by field.
-fn head_fields(heap: Global, parameters: &TcMirror) -> Result<String, AllocError> {
-    let TcActionGeneric {
-        index,
-        capab,
-        action: _,
-        refcnt,
-        bindcnt,
-    } = parameters.generic;
-    let outcome = outcome_of(parameters);
-    let number = outcome.number();
-    format!(in heap;
-        "  index {index}, capab {capab}, outcome {outcome:?} ({number}), refcnt {refcnt}, bindcnt {bindcnt}"
-    )
+/// An option of an action of a kind.
+#[derive(Clone, Copy)]
+struct ActionOption<'a> {
+    kind: &'a str,
+    nla: NlaBuffer<'a>,
 }
 
-/// What a mirror action does, and to which interface.
-fn mirror_fields(heap: Global, parameters: &TcMirror) -> Result<String, AllocError> {
-    let action = parameters.eaction;
-    let number = action.number();
-    let interface = parameters.ifindex;
-    format!(in heap; "  mirror action {action:?} ({number}), interface {interface}")
-}
-
-/// Adds what the book says of an option of an action of this kind, and the fields of a mirror action's parameters.
-fn judge_option(
-    heap: Global,
-    kind: &str,
-    option: &NlaBuffer<'_>,
-    lines: &mut Vec<String>,
-) -> Result<(), AllocError> {
-    lines.push(judgement(heap, kind, option)?)?;
-    if kind == "mirred" {
-        if let Ok(TcActionMirrorOption::Parms(parameters)) = TcActionMirrorOption::parse(option) {
-            lines.push(head_fields(heap, &parameters)?)?;
-            lines.push(mirror_fields(heap, &parameters)?)?;
-        }
-    }
-    Ok(())
-}
-
-/// The kind text of an action: that of its first attribute of type 1 that is a text.
-fn kind_of<'a>(action: &NlaBuffer<'a>) -> &'a str {
-    for found in action.nested(Layer::ActionAttribute) {
-        if let Ok(nla) = found {
-            if nla.kind() == 1 {
-                if let Ok(text) = parse_string(nla.value) {
-                    return text;
-                }
+impl<'a> ActionOption<'a> {
+    /// Writes what the book says of the option.
+    fn write_judgement<W: fmt::Write>(&self, f: &mut fmt::Formatter<W>) -> fmt::Result {
+        let ActionOption { kind, nla } = *self;
+        let place = nla.place;
+        let word = nla.word;
+        let length = nla.value.len();
+        write!(
+            f,
+            "place {place}, word {word:04X}, {length} bytes under \"{kind}\": "
+        )?;
+        match ShippedBook.judge(kind.as_bytes(), word, nla.value) {
+            Ok(judged) => {
+                let word = judged.word;
+                let length = judged.length;
+                writeln!(f, "written as word {word:04X} with {length} bytes")
+            }
+            Err(refusal) => {
+                let number = refusal.number;
+                let need = refusal.need;
+                writeln!(f, "refused by number {number}, {need} bytes are wanted")
             }
         }
     }
-    ""
 }
 
-/// Adds what the book says of each option of an action.
-fn judge_action(
-    heap: Global,
-    action: &NlaBuffer<'_>,
-    lines: &mut Vec<String>,
-) -> Result<(), AllocError> {
-    let kind = kind_of(action);
-    for found in action.nested(Layer::ActionAttribute) {
-        if let Ok(nla) = found {
-            if nla.kind() == 2 {
-                for inner in nla.nested(Layer::ActionOption) {
-                    if let Ok(option) = inner {
-                        judge_option(heap, kind, &option, lines)?;
-                    }
-                }
+impl<'a> fmt::Display for ActionOption<'a> {
+    fn fmt<W: fmt::Write>(&self, f: &mut fmt::Formatter<W>) -> fmt::Result {
+        self.write_judgement(f)?;
+        match TcActionOption::parse(self.kind.as_bytes(), &self.nla) {
+            Ok(TcActionOption::Mirror(TcActionMirrorOption::Parms(parameters))) => {
+                Parameters(parameters).fmt(f)
+            }
+            _ => Ok(()),
+        }
+    }
+}
+
+/// An action, as what the book says of each of its options.
+#[derive(Clone, Copy)]
+struct Action<'a>(NlaBuffer<'a>);
+
+impl<'a> Action<'a> {
+    /// The action's kind text: that of its first kind that is a text.
+    fn kind(&self) -> &'a str {
+        let attributes = self.0.nested(Layer::ActionAttribute).filter_map(Result::ok);
+        let mut kinds = attributes.filter(|nla| nla.kind() == TCA_ACT_KIND);
+        kinds
+            .find_map(|nla| parse_string(nla.value).ok())
+            .unwrap_or("")
+    }
+}
+
+impl<'a> fmt::Display for Action<'a> {
+    fn fmt<W: fmt::Write>(&self, f: &mut fmt::Formatter<W>) -> fmt::Result {
+        let kind = self.kind();
+        let attributes = self.0.nested(Layer::ActionAttribute).filter_map(Result::ok);
+        for options in attributes.filter(|nla| nla.kind() == TCA_ACT_OPTIONS) {
+            for nla in options.nested(Layer::ActionOption).filter_map(Result::ok) {
+                ActionOption { kind, nla }.fmt(f)?;
             }
         }
+        Ok(())
     }
-    Ok(())
 }
 
-/// What the book says of each option in the actions of a filter's option.
-pub(crate) fn judgements(heap: Global, actions: &NlaBuffer<'_>) -> Result<Vec<String>, AllocError> {
-    let mut lines = Vec::new(heap);
-    for found in actions.nested(Layer::Action) {
-        if let Ok(action) = found {
-            judge_action(heap, &action, &mut lines)?;
+/// What the book says of each option in the actions of a filter.
+#[derive(Clone, Copy)]
+pub(crate) struct Judgements<'a>(pub(crate) &'a [u8]);
+
+impl<'a> fmt::Display for Judgements<'a> {
+    fn fmt<W: fmt::Write>(&self, f: &mut fmt::Formatter<W>) -> fmt::Result {
+        let options = NlasIterator::new(self.0, Layer::FilterOption).filter_map(Result::ok);
+        for actions in options.filter(|nla| nla.kind() == TCA_U32_ACT) {
+            for action in actions.nested(Layer::Action).filter_map(Result::ok) {
+                Action(action).fmt(f)?;
+            }
         }
+        Ok(())
     }
-    Ok(lines)
 }

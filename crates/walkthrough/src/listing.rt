@@ -6,30 +6,37 @@ use model::fault::{Fault, Layer};
 use netlink::buffer::NlaBuffer;
 use netlink::walker::NlasIterator;
 use payload::text::parse_string;
-use std::alloc::{AllocError, Global};
+use std::fmt;
+use std::fmt::Display;
+use tc_filter::action_attribute::{TCA_ACT_KIND, TCA_ACT_OPTIONS};
+use tc_filter::cls_u32::TCA_U32_ACT;
 
 /// The layer of the attributes that the payload of an attribute holds, where it holds any: a list of actions, an action, an action's options.
 fn inside(layer: Layer, kind: u16) -> Option<Layer>
     ensures { result ≡ layer_inside layer kind }
 {
     match (layer, kind) {
-        (Layer::FilterOption, 7) => Some(Layer::Action),
+        (Layer::FilterOption, TCA_U32_ACT) => Some(Layer::Action),
         (Layer::Action, _) => Some(Layer::ActionAttribute),
-        (Layer::ActionAttribute, 2) => Some(Layer::ActionOption),
+        (Layer::ActionAttribute, TCA_ACT_OPTIONS) => Some(Layer::ActionOption),
         _ => None,
     }
 }
 
-/// The bytes in hexadecimal, with blanks between them.
-fn hex(heap: Global, bytes: &[u8]) -> Result<String, AllocError> {
-    let mut text = String::new(heap);
-    for b in bytes {
-        if !text.is_empty() {
-            text.push_str(" ")?;
+/// Bytes in hexadecimal, with blanks between them.
+#[derive(Clone, Copy)]
+struct Spaced<'a>(&'a [u8]);
+
+impl<'a> fmt::Display for Spaced<'a> {
+    fn fmt<W: fmt::Write>(&self, f: &mut fmt::Formatter<W>) -> fmt::Result {
+        for (i, byte) in self.0.iter().enumerate() {
+            if i > 0 {
+                f.write_str(" ")?;
+            }
+            write!(f, "{byte:02X}")?;
         }
-        text.push_str(format!(in heap; "{b:02X}")?.as_str())?;
+        Ok(())
     }
-    Ok(text)
 }
 
 /// How far an attribute's line is indented.
@@ -43,71 +50,98 @@ fn indent(layer: Layer) -> &'static str {
 }
 
 /// What a payload shows as: a kind by its text too, and one that holds attributes by its length alone.
-fn shown(heap: Global, nla: &NlaBuffer<'_>, layer: Layer) -> Result<String, AllocError> {
-    let kind = nla.kind();
-    let length = nla.value.len();
-    if let Some(_) = inside(layer, kind) {
-        return format!(in heap; "{length} bytes of attributes");
+#[derive(Clone, Copy)]
+struct Payload<'a> {
+    nla: NlaBuffer<'a>,
+    layer: Layer,
+}
+
+impl<'a> fmt::Display for Payload<'a> {
+    fn fmt<W: fmt::Write>(&self, f: &mut fmt::Formatter<W>) -> fmt::Result {
+        let kind = self.nla.kind();
+        let value = self.nla.value;
+        if inside(self.layer, kind).is_some() {
+            let length = value.len();
+            return write!(f, "{length} bytes of attributes");
+        }
+        let bytes = Spaced(value);
+        match (self.layer, kind) {
+            (Layer::ActionAttribute, TCA_ACT_KIND) => match parse_string(value) {
+                Ok(text) => write!(f, "{bytes}, the text \"{text}\""),
+                Err(_) => write!(f, "{bytes}, no text"),
+            },
+            _ => bytes.fmt(f),
+        }
     }
-    let bytes = hex(heap, nla.value)?;
-    if matches!(layer, Layer::ActionAttribute) && kind == 1 {
-        return match parse_string(nla.value) {
-            Ok(text) => format!(in heap; "{bytes}, the text \"{text}\""),
-            Err(_) => format!(in heap; "{bytes}, no text"),
-        };
-    }
-    Ok(bytes)
 }
 
 /// An attribute's line.
-fn line(heap: Global, nla: &NlaBuffer<'_>, layer: Layer) -> Result<String, AllocError> {
-    let space = indent(layer);
-    let place = nla.place;
-    let word = nla.word;
-    let kind = nla.kind();
-    let payload = shown(heap, nla, layer)?;
-    format!(in heap; "{space}place {place}, word {word:04X}, type {kind}: {payload}")
+#[derive(Clone, Copy)]
+struct Line<'a> {
+    nla: NlaBuffer<'a>,
+    layer: Layer,
+}
+
+impl<'a> fmt::Display for Line<'a> {
+    fn fmt<W: fmt::Write>(&self, f: &mut fmt::Formatter<W>) -> fmt::Result {
+        let Line { nla, layer } = *self;
+        let space = indent(layer);
+        let place = nla.place;
+        let word = nla.word;
+        let kind = nla.kind();
+        let payload = Payload { nla, layer };
+        writeln!(
+            f,
+            "{space}place {place}, word {word:04X}, type {kind}: {payload}"
+        )
+    }
 }
 
 /// A fault's line: where it is, what is wrong, and the numbers of its cause and layer.
-fn fault_line(heap: Global, fault: &Fault) -> Result<String, AllocError> {
-    let place = fault.place;
-    let words = fault.cause;
-    let cause = fault.cause.number();
-    let kind = fault.layer;
-    let layer = fault.layer.number();
-    format!(in heap; "place {place}, {kind}: {words} (cause {cause}, layer {layer})")
+#[derive(Clone, Copy)]
+struct FaultLine(Fault);
+
+impl fmt::Display for FaultLine {
+    fn fmt<W: fmt::Write>(&self, f: &mut fmt::Formatter<W>) -> fmt::Result {
+        let place = self.0.place;
+        let words = self.0.cause;
+        let cause = u8::from(self.0.cause);
+        let kind = self.0.layer;
+        let layer = u8::from(self.0.layer);
+        writeln!(
+            f,
+            "place {place}, {kind}: {words} (cause {cause}, layer {layer})"
+        )
+    }
 }
 
-/// Adds a line for each attribute that the walk finds, and for those inside it.
-fn list(
-    heap: Global,
+/// Writes a line for each attribute that the walk finds, and below it those inside it.
+fn list<W: fmt::Write>(
+    f: &mut fmt::Formatter<W>,
     walk: NlasIterator<'_>,
     layer: Layer,
-    lines: &mut Vec<String>,
-) -> Result<(), AllocError> {
+) -> fmt::Result {
     for found in walk {
         match found {
             Ok(nla) => {
-                lines.push(line(heap, &nla, layer)?)?;
+                Line { nla, layer }.fmt(f)?;
                 if let Some(inner) = inside(layer, nla.kind()) {
-                    list(heap, nla.nested(inner), inner, lines)?;
+                    list(f, nla.nested(inner), inner)?;
                 }
             }
-            Err(fault) => lines.push(fault_line(heap, &fault)?)?,
+            Err(fault) => FaultLine(fault).fmt(f)?,
         }
     }
     Ok(())
 }
 
 /// A line for each attribute of a filter, those inside others indented below them.
-pub(crate) fn listing(heap: Global, filter: &[u8]) -> Result<Vec<String>, AllocError> {
-    let mut lines = Vec::new(heap);
-    list(
-        heap,
-        NlasIterator::new(filter, Layer::FilterOption),
-        Layer::FilterOption,
-        &mut lines,
-    )?;
-    Ok(lines)
+#[derive(Clone, Copy)]
+pub(crate) struct Listing<'a>(pub(crate) &'a [u8]);
+
+impl<'a> fmt::Display for Listing<'a> {
+    fn fmt<W: fmt::Write>(&self, f: &mut fmt::Formatter<W>) -> fmt::Result {
+        let walk = NlasIterator::new(self.0, Layer::FilterOption);
+        list(f, walk, Layer::FilterOption)
+    }
 }

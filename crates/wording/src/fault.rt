@@ -15,8 +15,8 @@ impl fmt::Display for Numbers {
             need,
             number,
         } = self.0;
-        let cause = cause.number();
-        let layer = layer.number();
+        let cause = u8::from(cause);
+        let layer = u8::from(layer);
         write!(f, "fault {cause} {place} {layer} {need} {number}")
     }
 }

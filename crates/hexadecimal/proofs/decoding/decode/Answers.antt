@@ -1,11 +1,10 @@
-use Rattle.std.proofs.Common.{rules}
-use Rattle.hexadecimal.proofs.Steps.{behind-none, decode_step}
+use Rattle.std.proofs.Common.{rules, arith}
+use Rattle.hexadecimal.proofs.Steps.{decode_step}
 use Rattle.hexadecimal.proofs.decoding.decode.Goals as goal
 
-pub loop-left-init : goal.loop-left-init
-loop-left-init c = search (rules, behind-none)
-
-pub loop-left-preserved : goal.loop-left-preserved
-loop-left-preserved c =
-    decode_step c.loop-left.left.now _ _ c.in-Some.found _ (search rules) c.in-Some.ensures
-    c.in_ok-push-in-Some.ensures.items c.loop-left.invariant
+pub loop-pair-preserved : goal.loop-pair-preserved
+loop-pair-preserved c = (
+  search rules,
+  decode_step _ c.in-Some.pair.now _ _ _ c.in-Some-byte.found _ (omega (arith, c.in-len2.len_at_least, c.in-len2.len_below))
+      c.in-Some.ensures.steps.1.0 c.in-Some-byte.ensures c.in_ok-push-in-Some-byte.ensures.items c.loop-pair.invariant.1,
+)

@@ -1,9 +1,8 @@
-use Rattle.std.proofs.Common.{◌≡◌, length, vec_items}
+use Rattle.std.proofs.Common.{◌≡◌, vec_items}
+use Rattle.std.specs.Slice.Iter.{chunks_rest, chunks_size}
 use Rattle.hexadecimal.specs.Hex.{decode, behind}
 use Rattle.hexadecimal.proofs.decoding.decode.Given as goal
 
-abbrev pub invariant-loop-left : goal.invariant-loop-left
-invariant-loop-left l = behind (vec_items l.bytes) (decode l.left) ≡ decode l.initial.left
-
-abbrev pub decreases-loop-left : goal.decreases-loop-left
-decreases-loop-left l = length l.left
+abbrev pub invariant-loop-pair : goal.invariant-loop-pair
+invariant-loop-pair l =
+    (chunks_size l.pair-iterator ≡ 2) × (behind (vec_items l.bytes) (decode (chunks_rest l.pair-iterator)) ≡ decode l.text)

@@ -1,6 +1,6 @@
-// The sample entry: a filter that picks out a heat meter's packets and mirrors them to a recorder.
+// The sample entry, put together with its kind spelt one way or the other.
 ghost use Rattle.std.specs.Prelude.{◌≡◌, ◌++◌, IfOk};
-ghost use Rattle.walkthrough.specs.Samples.{before_kind, behind_kind};
+ghost use Rattle.sample.specs.Samples.{before_kind, behind_kind};
 
 use std::alloc::{AllocError, Global};
 
@@ -19,13 +19,13 @@ const OPTIONS: &[u8] =
     b"\x24\x00\x02\x80\x20\x00\x02\x00\x01\x00\x00\x00\x00\x00\x00\x00\x03\x00\x00\x00\x00\x00\x00\x00\x00\x00\x00\x00\x02\x00\x00\x00\x07\x00\x00\x00";
 
 /// The kind with a zero after its text, as the `tc` tool writes it.
-pub(crate) const WITH_ZERO: &[u8] = b"\x0B\x00\x01\x00mirred\x00\x00";
+pub const WITH_ZERO: &[u8] = b"\x0B\x00\x01\x00mirred\x00\x00";
 
 /// The same kind with no zero: the two bytes behind it are padding.
-pub(crate) const WITHOUT_ZERO: &[u8] = b"\x0A\x00\x01\x00mirred\x00\x00";
+pub const WITHOUT_ZERO: &[u8] = b"\x0A\x00\x01\x00mirred\x00\x00";
 
 /// The entry, with its kind spelt so.
-pub(crate) fn entry(heap: Global, kind: &[u8]) -> Result<Vec<u8>, AllocError>
+pub fn entry(heap: Global, kind: &[u8]) -> Result<Vec<u8>, AllocError>
     ensures { IfOk result (λ v. v.items ≡ before_kind ++ (kind.now ++ behind_kind)) }
 {
     let mut filter = Vec::new(heap);

@@ -1,9 +1,0 @@
-use Rattle.std.proofs.Common.{◌≡◌, reverse, length}
-use Rattle.hexadecimal.specs.PlainText.{from_start}
-use Rattle.hexadecimal.proofs.plain_text.without_back.Given as goal
-
-abbrev pub invariant-loop-left : goal.invariant-loop-left
-invariant-loop-left l = from_start (reverse l.left) ≡ from_start (reverse l.initial.left)
-
-abbrev pub decreases-loop-left : goal.decreases-loop-left
-decreases-loop-left l = length l.left
