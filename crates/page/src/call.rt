@@ -1,5 +1,4 @@
 // The calls of a page.
-ghost use Rattle.std.specs.Prelude.{◌≡◌};
 
 /// A call of a page.
 #[derive(Clone, Copy)]
@@ -12,24 +11,4 @@ pub enum Call<'a> {
     Close,
     /// Strike ends the innermost nest and removes it.
     Strike,
-}
-
-impl<'a> Call<'a> {
-    pub fn open(kind: u16) -> Call<'a>
-        ensures { result ≡ Call.Open kind }
-    {
-        Call::Open(kind)
-    }
-
-    pub fn close() -> Call<'a>
-        ensures { result ≡ Call.Close }
-    {
-        Call::Close
-    }
-
-    pub fn strike() -> Call<'a>
-        ensures { result ≡ Call.Strike }
-    {
-        Call::Strike
-    }
 }

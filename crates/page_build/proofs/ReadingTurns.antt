@@ -55,7 +55,7 @@ module _ (m : Meaning) (laws : BookLaws m) where
   attribute_same k p (cookie x) h = refl
   attribute_same k p (in_hw_count n) h = refl
   attribute_same k p (other w x) h =
-      ap (λ (t : Bool). cond t (nest_turns 2 (row_turns option_turns_at (walk (p + 4) x))) (put_turns w x)) (ne_eqb (type_of w) 2 h.0.known.0)
+      ap (λ (t : Bool). cond t (nest_turns (type_of w) (row_turns option_turns_at (walk (p + 4) x))) (put_turns w x)) (ne_eqb (type_of w) 2 h.0.known.0)
 
   action_same : (p : ℕ) (a : Action) → ActionKept a → action_turns_at p (write_action a).word (write_action a).payload ≡ action_turns a
   action_same p a h =
@@ -80,7 +80,7 @@ module _ (m : Meaning) (laws : BookLaws m) where
   option_same p (mark x) h = refl
   option_same p (flags n) h = refl
   option_same p (default w x) h =
-      ap (λ (t : Bool). cond t (nest_turns 7 (row_turns action_turns_at (walk (p + 4) x))) (put_turns w x)) (ne_eqb (type_of w) 7 h.0.known.0)
+      ap (λ (t : Bool). cond t (nest_turns (type_of w) (row_turns action_turns_at (walk (p + 4) x))) (put_turns w x)) (ne_eqb (type_of w) 7 h.0.known.0)
 
   pub reading_same : (bs : Bytes) → Octets bs → (r : Reading) → read_filter m bs ≡ Ok r → length (written r) ≤ 65531 → row_turns filter_turns_at (walk 0 (written r)) ≡ reading_turns r
   reading_same bs o r q short =

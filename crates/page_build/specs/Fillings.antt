@@ -21,15 +21,23 @@ nest_turns t ts = with_own_memory (open_nest t) ∷ (ts ++ with_own_memory close
 abbrev pub put_turns : (word : ℕ) → Bytes → List Turn
 put_turns w x = with_own_memory (put w x) ∷ []
 
+-- an attribute that is a nest is opened by its type, filled with a row, and closed
+abbrev pub nested_turns_at : TurnsAt → TurnsAt
+nested_turns_at f p w x = nest_turns (type_of w) (row_turns f (walk (p + 4) x))
+
+-- those of one type have these turns, and any other is put
+abbrev pub chosen_turns_at : (type : ℕ) → TurnsAt → TurnsAt
+chosen_turns_at t f p w x = cond (type_of w == t) (f p w x) (put_turns w x)
+
 -- the four layers
 abbrev pub option_turns_at : TurnsAt
 option_turns_at p w x = put_turns w x
 
 abbrev pub attribute_turns_at : TurnsAt
-attribute_turns_at p w x = cond (type_of w == 2) (nest_turns 2 (row_turns option_turns_at (walk (p + 4) x))) (put_turns w x)
+attribute_turns_at = chosen_turns_at 2 (nested_turns_at option_turns_at)
 
 abbrev pub action_turns_at : TurnsAt
-action_turns_at p w x = nest_turns (type_of w) (row_turns attribute_turns_at (walk (p + 4) x))
+action_turns_at = nested_turns_at attribute_turns_at
 
 abbrev pub filter_turns_at : TurnsAt
-filter_turns_at p w x = cond (type_of w == 7) (nest_turns 7 (row_turns action_turns_at (walk (p + 4) x))) (put_turns w x)
+filter_turns_at = chosen_turns_at 7 (nested_turns_at action_turns_at)

@@ -2,31 +2,16 @@
 ghost use Rattle.std.specs.Prelude.{◌≡◌, length, MatchResult};
 ghost use Rattle.model.specs.Page.{state, only_fault};
 ghost use Rattle.model.specs.Writing.{output_after};
-ghost use Rattle.model.specs.declared.fault.Cause.TheVariants.{NoRoom};
-ghost use Rattle.model.specs.declared.fault.Layer.TheVariants.{FilterOption};
 ghost use Rattle.page.specs.Pages.{as_page, as_made};
 ghost use Rattle.page_build.specs.Builds.{building, Built};
 
 use crate::filler::fill_each;
-use crate::fillers::FilterOptions;
+use crate::fillers::FILTER_OPTIONS;
 use filter::writing::write_out;
 use model::fault::{Cause, Fault, Layer};
 use netlink::walker::NlasIterator;
 use page::page::Page;
 use tc::book::Book;
-
-/// The page's memory has fewer bytes than the written form.
-fn no_room() -> Fault
-    ensures { result ≡ record { cause = NoRoom; place = 0; layer = FilterOption; need = 0; number = 0 } }
-{
-    Fault {
-        cause: Cause::NoRoom,
-        place: 0,
-        layer: Layer::FilterOption,
-        need: 0,
-        number: 0,
-    }
-}
 
 /// Builds a page from a filter, by the page's own calls: each attribute is put as it is written, and each nest opened, filled and closed.
 /// The filter is written out into the scratch memory first; where that is refused, or the page's memory is too short or too long, the memory stays as it was.
@@ -43,10 +28,10 @@ pub fn build<B: Book>(
 {
     let size = write_out(book, filter, scratch)?;
     if memory.len() < size {
-        return Err(no_room());
+        return Err(Fault::new(Cause::NoRoom, 0, Layer::FilterOption));
     }
     let mut page = Page::new(memory)?;
     let walk = NlasIterator::new(&scratch[..size], Layer::FilterOption);
-    fill_each(&FilterOptions { book }, &mut page, memory, walk);
+    fill_each(&FILTER_OPTIONS, book, &mut page, memory, walk);
     Ok(page)
 }

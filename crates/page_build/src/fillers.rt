@@ -1,107 +1,82 @@
 // The four layers of a filter.
-ghost use Rattle.page_build.specs.Fillings.{option_turns_at, attribute_turns_at, action_turns_at, filter_turns_at};
+ghost use Rattle.page_build.specs.Fillings.{option_turns_at, nested_turns_at, chosen_turns_at};
 
 use crate::filler::{Filler, fill_each};
 use model::fault::Layer;
 use netlink::buffer::NlaBuffer;
 use page::page::Page;
 use tc::book::Book;
+use tc_filter::action_attribute::TCA_ACT_OPTIONS;
+use tc_filter::cls_u32::TCA_U32_ACT;
 
-/// The type of a list of actions.
-const TCA_U32_ACT: u16 = 7;
-
-/// The type of an action's options.
-const TCA_ACT_OPTIONS: u16 = 2;
-
-/// The options of an action: each is put.
+/// Each attribute is put.
 #[derive(Drop)]
-pub(crate) struct ActionOptions<'a, B> {
-    pub(crate) book: &'a B,
-}
+pub(crate) struct Puts;
 
-impl<'a, B: Book> Filler for ActionOptions<'a, B> {
-    ghost meaning = { λ s. B.Book.meaning s.book.now };
-
+impl Filler for Puts {
     ghost turns = { λ _. option_turns_at };
 
-    fn fill(&self, page: &mut Page, memory: &mut [u8], nla: &NlaBuffer<'_>) {
-        let _ = page.put(self.book, memory, nla.word, nla.value);
+    fn fill<B: Book>(&self, book: &B, page: &mut Page, memory: &mut [u8], nla: &NlaBuffer<'_>) {
+        let _ = page.put(book, memory, nla.word, nla.value);
     }
 }
 
-/// The attributes of an action: a list of options is opened, filled and closed, and any other is put.
+/// Each attribute is a nest: it is opened by its type, filled with what is inside, which is of this layer, and closed.
 #[derive(Drop)]
-pub(crate) struct Attributes<'a, B> {
-    pub(crate) book: &'a B,
+pub(crate) struct Nests<F> {
+    layer: Layer,
+    inside: F,
 }
 
-impl<'a, B: Book> Filler for Attributes<'a, B> {
-    ghost meaning = { λ s. B.Book.meaning s.book.now };
+impl<F: Filler> Filler for Nests<F> {
+    ghost turns = { λ s. nested_turns_at (F.turns s.inside) };
 
-    ghost turns = { λ _. attribute_turns_at };
+    fn fill<B: Book>(&self, book: &B, page: &mut Page, memory: &mut [u8], nla: &NlaBuffer<'_>) {
+        let _ = page.open(book, memory, nla.kind());
+        fill_each(&self.inside, book, page, memory, nla.nested(self.layer));
+        let _ = page.close(book, memory);
+    }
+}
 
-    fn fill(&self, page: &mut Page, memory: &mut [u8], nla: &NlaBuffer<'_>) {
-        if nla.kind() != TCA_ACT_OPTIONS {
-            let _ = page.put(self.book, memory, nla.word, nla.value);
+/// Each attribute of one type goes the way that is given for it, and any other is put.
+#[derive(Drop)]
+pub(crate) struct Chosen<F, const KIND: u16> {
+    way: F,
+}
+
+impl<F: Filler, const KIND: u16> Filler for Chosen<F, KIND> {
+    ghost turns = { λ s. chosen_turns_at KIND (F.turns s.way) };
+
+    fn fill<B: Book>(&self, book: &B, page: &mut Page, memory: &mut [u8], nla: &NlaBuffer<'_>) {
+        if nla.kind() != KIND {
+            let _ = page.put(book, memory, nla.word, nla.value);
             return;
         }
-        let _ = page.open(self.book, memory, TCA_ACT_OPTIONS);
-        fill_each(
-            &ActionOptions { book: self.book },
-            page,
-            memory,
-            nla.nested(Layer::ActionOption),
-        );
-        let _ = page.close(self.book, memory);
+        self.way.fill(book, page, memory, nla);
     }
 }
 
-/// Actions: each is opened by its tab, filled and closed.
-#[derive(Drop)]
-pub(crate) struct Actions<'a, B> {
-    pub(crate) book: &'a B,
-}
+/// The attributes of an action: a list of options is a nest.
+type Attributes = Chosen<Nests<Puts>, TCA_ACT_OPTIONS>;
 
-impl<'a, B: Book> Filler for Actions<'a, B> {
-    ghost meaning = { λ s. B.Book.meaning s.book.now };
+/// Actions: each is a nest.
+type Actions = Nests<Attributes>;
 
-    ghost turns = { λ _. action_turns_at };
+/// The options of a filter: a list of actions is a nest.
+pub(crate) type FilterOptions = Chosen<Nests<Actions>, TCA_U32_ACT>;
 
-    fn fill(&self, page: &mut Page, memory: &mut [u8], nla: &NlaBuffer<'_>) {
-        let _ = page.open(self.book, memory, nla.kind());
-        fill_each(
-            &Attributes { book: self.book },
-            page,
-            memory,
-            nla.nested(Layer::ActionAttribute),
-        );
-        let _ = page.close(self.book, memory);
-    }
-}
-
-/// The options of a filter: a list of actions is opened, filled and closed, and any other is put.
-#[derive(Drop)]
-pub(crate) struct FilterOptions<'a, B> {
-    pub(crate) book: &'a B,
-}
-
-impl<'a, B: Book> Filler for FilterOptions<'a, B> {
-    ghost meaning = { λ s. B.Book.meaning s.book.now };
-
-    ghost turns = { λ _. filter_turns_at };
-
-    fn fill(&self, page: &mut Page, memory: &mut [u8], nla: &NlaBuffer<'_>) {
-        if nla.kind() != TCA_U32_ACT {
-            let _ = page.put(self.book, memory, nla.word, nla.value);
-            return;
-        }
-        let _ = page.open(self.book, memory, TCA_U32_ACT);
-        fill_each(
-            &Actions { book: self.book },
-            page,
-            memory,
-            nla.nested(Layer::Action),
-        );
-        let _ = page.close(self.book, memory);
-    }
-}
+/// How the options of a filter are put on a page, with all that is inside.
+pub(crate) const FILTER_OPTIONS: FilterOptions = Chosen {
+    way: Nests {
+        layer: Layer::Action,
+        inside: Nests {
+            layer: Layer::ActionAttribute,
+            inside: Chosen {
+                way: Nests {
+                    layer: Layer::ActionOption,
+                    inside: Puts,
+                },
+            },
+        },
+    },
+};

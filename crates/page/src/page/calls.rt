@@ -11,10 +11,8 @@ use super::Page;
 use crate::call::Call;
 use crate::level::Level;
 use model::fault::{Cause, Fault, Layer};
+use netlink::nla::LONGEST_PAYLOAD;
 use tc::book::Book;
-
-/// The most bytes that a page's memory may have.
-const LONGEST_PAGE: usize = 65531;
 
 impl Page {
     /// A page of which nothing is used.
@@ -35,14 +33,8 @@ impl Page {
         ensures value { as_made result ≡ new_page (length memory.now) }
         ensures reaches { IfOk result (λ p. ReachesEveryFilter (state (as_page p) memory.now)) }
     {
-        if memory.len() > LONGEST_PAGE {
-            return Err(Fault {
-                cause: Cause::TooLong,
-                place: 0,
-                layer: Layer::FilterOption,
-                need: 0,
-                number: 0,
-            });
+        if memory.len() > LONGEST_PAYLOAD {
+            return Err(Fault::new(Cause::TooLong, 0, Layer::FilterOption));
         }
         Ok(Page::blank(memory))
     }
@@ -67,21 +59,21 @@ impl Page {
         ensures outcome { outcome (answered result) (state (as_page self.new) memory.new) ≡ stepped (B.Book.meaning book.now) (state (as_page self.old) memory.old) (open_nest kind) }
         ensures fair { InRange (open_nest kind) }
     {
-        self.perform(book, memory, Call::open(kind))
+        self.perform(book, memory, Call::Open(kind))
     }
 
     /// Ends the innermost nest and keeps it: its length is written. An action is read with the book first.
     pub fn close<B: Book>(&mut self, book: &B, memory: &mut [u8]) -> Result<(), Fault>
         ensures { outcome (answered result) (state (as_page self.new) memory.new) ≡ stepped (B.Book.meaning book.now) (state (as_page self.old) memory.old) close }
     {
-        self.perform(book, memory, Call::close())
+        self.perform(book, memory, Call::Close)
     }
 
     /// Strikes the innermost nest: the used length returns to its head, and no byte is altered.
     pub fn strike<B: Book>(&mut self, book: &B, memory: &mut [u8]) -> Result<(), Fault>
         ensures { outcome (answered result) (state (as_page self.new) memory.new) ≡ stepped (B.Book.meaning book.now) (state (as_page self.old) memory.old) strike }
     {
-        self.perform(book, memory, Call::strike())
+        self.perform(book, memory, Call::Strike)
     }
 
     /// How many bytes of the memory are used: the page's bytes are those below.

@@ -9,6 +9,7 @@ ghost use Rattle.page.specs.Steps.{outcome, nested, sealed, struck};
 use super::Page;
 use crate::level::Level;
 use model::fault::{Cause, Fault};
+use netlink::nla::head;
 use netlink::overwrite::overwrite;
 
 impl Page {
@@ -16,13 +17,7 @@ impl Page {
     pub(super) fn fault(&self, cause: Cause) -> Fault
         ensures { numbers result ≡ own_fault (as_page self.now) (cause_number cause) 0 }
     {
-        Fault {
-            cause,
-            place: self.used,
-            layer: self.level.layer(),
-            need: 0,
-            number: 0,
-        }
+        Fault::new(cause, self.used, self.level.layer())
     }
 
     /// Writes a head with length 0 behind what is used.
@@ -34,8 +29,7 @@ impl Page {
         if self.size - self.used < 4 {
             return Err(self.fault(Cause::NoRoom));
         }
-        let [low, high] = word.to_le_bytes();
-        overwrite(memory, self.used, &[0, 0, low, high]);
+        overwrite(memory, self.used, &head(0, word));
         self.level = inner;
         self.used += 4;
         Ok(())

@@ -12,15 +12,11 @@ use crate::level::Level;
 use filter::reading::read_action;
 use model::fault::{Cause, Fault};
 use tc::book::Book;
+use tc_filter::action_attribute::TCA_ACT_OPTIONS;
+use tc_filter::cls_u32::TCA_U32_ACT;
 
 /// How many types there are: the two highest bits of a word are flags.
 const TYPES: u16 = 16384;
-
-/// The type of a list of actions.
-const TCA_U32_ACT: u16 = 7;
-
-/// The type of an action's options.
-const TCA_ACT_OPTIONS: u16 = 2;
 
 /// The flag of a nest. Only the options of an action are written with it.
 const NLA_F_NESTED: u16 = 0x8000;

@@ -14,7 +14,7 @@ loop-nla-preserved g c =
     let t = state (as_page c.fill.new.page) c.fill.new.memory in (
       tt,
       tt,
-      row_more (g.F.Filler.meaning c.args.filler.now) (g.F.Filler.turns c.args.filler.now) s t a.place a.word a.value.now (ahead c.next.new.self) (ahead c.loop-nla.nla-iterator) step.0 c.fill.ensures
+      row_more (g.B.Book.meaning c.args.book.now) (g.F.Filler.turns c.args.filler.now) s t a.place a.word a.value.now (ahead c.next.new.self) (ahead c.loop-nla.nla-iterator) step.0 c.fill.ensures
           ∙ c.loop-nla.invariant.2,
       step.2 ∙ c.loop-nla.invariant.3,
     )

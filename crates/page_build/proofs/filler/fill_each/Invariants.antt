@@ -11,6 +11,6 @@ abbrev pub invariant-loop-nla : goal.invariant-loop-nla
 invariant-loop-nla g l =
     (goal.iterator-loop-nla g).can_next l.nla-iterator
     × (goal.iterator-loop-nla g).is_finite l.nla-iterator
-    × (run (g.F.Filler.meaning l.filler) (state (as_page l.page) l.memory) (row_turns (g.F.Filler.turns l.filler) (ahead l.nla-iterator))
-    ≡ run (g.F.Filler.meaning l.filler) (state (as_page l.initial.page) l.initial.memory) (row_turns (g.F.Filler.turns l.filler) (ahead l.walk)))
+    × (run (g.B.Book.meaning l.book) (state (as_page l.page) l.memory) (row_turns (g.F.Filler.turns l.filler) (ahead l.nla-iterator))
+    ≡ run (g.B.Book.meaning l.book) (state (as_page l.initial.page) l.initial.memory) (row_turns (g.F.Filler.turns l.filler) (ahead l.walk)))
     × (l.nla-iterator.end ≡ l.walk.end)
