@@ -1,8 +1,8 @@
 -- An action read in summary: its kind first, and then its attributes. Assumes nothing.
-use Rattle.std.proofs.Common.{◌≡◌, ℕ, ◌+◌, List, map, Ok, Err, Result, sym, refl, ap, ◌∙◌, arith}
+use Rattle.std.proofs.Common.{◌≡◌, ℕ, ◌+◌, ◌≤◌, List, map, length, Ok, Err, Result, sym, refl, ap, ◌∙◌, arith}
 use Rattle.model.specs.Numbers.{Bytes}
 use Rattle.model.specs.Attributes.{type_of, attribute}
-use Rattle.model.specs.Faults.{numbers, Read, ◌>>=◌}
+use Rattle.model.specs.Faults.{Read, ◌>>=◌}
 use Rattle.model.specs.Walk.{Walked, walk}
 use Rattle.model.specs.Book.{Meaning}
 use Rattle.model.specs.Counts.{options_in}
@@ -14,7 +14,7 @@ use Rattle.netlink.specs.declared.buffer.NlaBuffer.{NlaBuffer}
 use Rattle.tc_filter.specs.Kinds.{kind_found, ActionFound, action_found, action_heard, action_on}
 use Rattle.tc_filter.proofs.ActionsFound.{found_reads}
 use Rattle.tc_filter.specs.declared.action.TcAction.{TcAction}
-use Rattle.filter.specs.Summaries.{InFilter, of_attribute, of_action, attribute_summary, action_summary, tally_of}
+use Rattle.filter.specs.Summaries.{of_attribute, of_action, attribute_summary, action_summary}
 use Rattle.filter.specs.Nests.{none, options_of, around}
 use Rattle.filter.proofs.Contents.{row_of, options_are, around-read}
 
@@ -47,7 +47,7 @@ module _ (b : NlaBuffer) where
   pub action-tab : (r : Result TcAction Fault) (a : TcAction) → action_heard r ≡ action_found b → r ≡ Ok a → a.tab ≡ type_of b.word
   action-tab r a e h = ap (λ (f : ActionFound). f.tab) (found_is r a e h)
 
-  module _ (m : Meaning) (inside : InFilter b) where
+  module _ (m : Meaning) (inside : b.place + (4 + length b.value.now) ≤ 65531) where
     abbrev row : Walked
     row = walk (b.place + 4) b.value.now
 
@@ -63,8 +63,3 @@ module _ (b : NlaBuffer) where
         ∙ ap (λ (f : ActionFound). action_on m f >>= λ y. Ok (of_action y)) (sym (found_is r a e h))
         ∙ ap (λ (q : Result TcAction Fault). (action_heard q >>= action_on m) >>= λ y. Ok (of_action y)) (sym h)
         ∙ ap (λ (q : Read Action). q >>= λ y. Ok (of_action y)) (reads r e)
-
-    -- without, it is refused
-    pub action-refused : (r : Result TcAction Fault) (f : Fault) → action_heard r ≡ action_found b → r ≡ Err f → Err (numbers f) ≡ tally_of (action_summary m b.place b.word b.value.now)
-    action-refused r f e h =
-        ap (λ (q : Result TcAction Fault). tally_of ((action_heard q >>= action_on m) >>= λ y. Ok (of_action y))) (sym h) ∙ ap (λ (q : Read Action). tally_of (q >>= λ y. Ok (of_action y))) (reads r e)

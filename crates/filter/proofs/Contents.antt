@@ -1,6 +1,6 @@
 -- What an option or attribute holds reads as the model reads it. Assumes nothing.
-use Rattle.std.proofs.Common.{◌≡◌, ℕ, ◌+◌, ◌*◌, List, [], ◌∷◌, ◌++◌, map, length, IfOk, Ok, Err, Result, sym, refl, ap, ◌∙◌, subst, arith, length-append, Bor}
-use Rattle.model.specs.Numbers.{Bytes, le_bytes}
+use Rattle.std.proofs.Common.{◌≡◌, ℕ, ◌+◌, List, [], ◌∷◌, ◌++◌, map, length, IfOk, Ok, Err, Result, sym, refl, ap, ◌∙◌, arith}
+use Rattle.model.specs.Numbers.{Bytes}
 use Rattle.model.specs.Attributes.{Attribute, attribute, encode, encode_all}
 use Rattle.model.specs.Faults.{numbers, Read, ◌>>=◌}
 use Rattle.model.specs.Walk.{Walked, done, bad, item, walk}
@@ -23,8 +23,7 @@ use Rattle.tc_filter.specs.declared.cls_u32.TcFilterU32Option.{TcFilterU32Option
 use Rattle.tc_filter.specs.declared.cls_u32.TcFilterU32Option.TheVariants as option
 use Rattle.filter.specs.declared.tally.Tally.{Tally}
 use Rattle.filter.specs.Summaries.{Summary, total, of_attribute, of_action, of_option, of_action_option, attribute_summary, option_summary}
-use Rattle.tc_filter.specs.Leaves.{lone, attribute_content, option_content}
-use Rattle.filter.specs.Held.{HeldBy}
+use Rattle.tc_filter.specs.Leaves.{attribute_content, option_content}
 use Rattle.filter.specs.Nests.{none, items_of, options_of, written_row, around, read_in_attribute, read_in_option}
 
 -- reading in summary is reading, and then the summary of each
@@ -131,44 +130,3 @@ module _ (m : Meaning) where
   option-refused b (Err d) q e h f i =
       let same : f ≡ record { cause = d.cause; place = b.place; layer = Layer.FilterOption; need = d.need; number = 0 } = cc in
       ap (λ (y : Fault). Err (numbers y)) same ∙ ap (λ (y : Read FilterOption). y >>= λ o. Ok (of_option o)) e
-
--- what an attribute holds is a part of it
-module _ (b : NlaBuffer) where
-  number_held : (a : Attribute) → length a.payload ≡ 4 → HeldBy b (lone a)
-  number_held a e = omega (arith, e)
-
-  value_held : (a : Attribute) → a.payload ≡ b.value.now → HeldBy b (lone a)
-  value_held a e = omega (arith, ap length e)
-
-  attribute_held : (v : TcActionAttribute) → attributes.PartOf b v → HeldBy b (attribute_content v)
-  attribute_held (attr.Kind t) h = omega (arith, h, length-append t.now (0 ∷ []))
-  attribute_held (attr.Options a) h = (ap (λ (n : NlaBuffer). n.place) h, ap (λ (n : NlaBuffer). n.value.now) h)
-  attribute_held (attr.Index n) h = number_held (attribute 3 (le_bytes 4 n)) refl
-  attribute_held (attr.Stats x) h = value_held (attribute 4 x.now) (ap (λ (y : Bor Bytes). y.now) h)
-  attribute_held (attr.Cookie x) h = value_held (attribute 6 x.now) (ap (λ (y : Bor Bytes). y.now) h)
-  attribute_held (attr.InHwCount n) h = number_held (attribute 10 (le_bytes 4 n)) refl
-  attribute_held (attr.Other a) h = value_held (attribute a.word a.value.now) (ap (λ (y : Bor Bytes). y.now) h)
-
-  pub attribute-holds-part : (r : Result TcActionAttribute DecodeError) (q : Result TcActionAttribute Fault) (p : ℕ) → IfOk r (attributes.PartOf b) → q ≡ placed r p Layer.ActionAttribute →
-      (v : TcActionAttribute) → q ≡ Ok v → HeldBy b (attribute_content v)
-  attribute-holds-part (Ok u) q p h e v i = let same : u ≡ v = cc in attribute_held v (subst (attributes.PartOf b) same h)
-  attribute-holds-part (Err d) q p h e v i = let z : ◌≡◌ {A = ℕ} 0 1 = cc in absurd (omega arith)
-
-  option_held : (v : TcFilterU32Option) → filter-options.PartOf b v → HeldBy b (option_content v)
-  option_held (option.ClassId h) p = number_held (attribute 1 (le_bytes 4 (h.major * 65536 + h.minor))) refl
-  option_held (option.Hash n) p = number_held (attribute 2 (le_bytes 4 n)) refl
-  option_held (option.Link n) p = number_held (attribute 3 (le_bytes 4 n)) refl
-  option_held (option.Divisor n) p = number_held (attribute 4 (le_bytes 4 n)) refl
-  option_held (option.Selector s) p = omega (arith, p.1)
-  option_held (option.Police x) p = value_held (attribute 6 x.now) (ap (λ (y : Bor Bytes). y.now) p)
-  option_held (option.Action a) p = (ap (λ (n : NlaBuffer). n.place) p, ap (λ (n : NlaBuffer). n.value.now) p)
-  option_held (option.Indev x) p = value_held (attribute 8 x.now) (ap (λ (y : Bor Bytes). y.now) p)
-  option_held (option.Pnct x) p = value_held (attribute 9 x.now) (ap (λ (y : Bor Bytes). y.now) p)
-  option_held (option.Mark x) p = value_held (attribute 10 x.now) (ap (λ (y : Bor Bytes). y.now) p)
-  option_held (option.Flags n) p = number_held (attribute 11 (le_bytes 4 n)) refl
-  option_held (option.Other a) p = value_held (attribute a.word a.value.now) (ap (λ (y : Bor Bytes). y.now) p)
-
-  pub option-holds-part : (r : Result TcFilterU32Option DecodeError) (q : Result TcFilterU32Option Fault) → IfOk r (filter-options.PartOf b) → q ≡ placed r b.place Layer.FilterOption →
-      (v : TcFilterU32Option) → q ≡ Ok v → HeldBy b (option_content v)
-  option-holds-part (Ok u) q h e v i = let same : u ≡ v = cc in option_held v (subst (filter-options.PartOf b) same h)
-  option-holds-part (Err d) q h e v i = let z : ◌≡◌ {A = ℕ} 0 1 = cc in absurd (omega arith)

@@ -1,11 +1,10 @@
 -- The numbers of an attribute with a row inside, and of one without. Assumes nothing.
-use Rattle.std.proofs.Common.{◌≡◌, ℕ, ◌+◌, ◌*◌, ◌≤◌, List, [], ◌∷◌, length, Ok, Err, sym, refl, ap, ◌∙◌, arith, length-append}
+use Rattle.std.proofs.Common.{◌≡◌, ℕ, ◌+◌, List, [], ◌∷◌, length, Ok, Err, sym, refl, ap, ◌∙◌, arith, length-append}
 use Rattle.model.specs.Attributes.{rounded, Attribute, attribute, encode}
 use Rattle.model.specs.Faults.{FaultNumbers, Read, ◌>>=◌}
 use Rattle.model.specs.Walk.{Walked}
 use Rattle.model.specs.Reading.{each}
 use Rattle.filter.specs.declared.tally.Tally.{Tally}
-use Rattle.filter.specs.Tallies.{Bounded}
 use Rattle.filter.specs.Summaries.{Summary, Reader, total, tally_of, tally_all, of_action_option}
 use Rattle.filter.specs.Nests.{written_row, around}
 use Rattle.filter.specs.WriteOut.{payload_length}
@@ -23,11 +22,6 @@ pub leaf-tally : (q : Read Summary) (a : Attribute) (n : ℕ) (t : Tally) → Ok
 leaf-tally q a n t e h i =
     let size : 4 + rounded n ≡ length (encode a) = ap (λ (k : ℕ). 4 + rounded k) h ∙ sym (length-encode a) in
     ap (λ (u : Tally). Ok u) (i ∙ ap (tally 1 0 0) size) ∙ ap tally_of e
-
-pub leaf_bounds : (t : Tally) (n m : ℕ) → t ≡ tally 1 0 0 (4 + rounded n) → 4 + rounded n ≤ 2 * (4 + m) → (t.items ≡ 1) × Bounded t (4 + m)
-leaf_bounds t n m e h =
-    let items = ap (λ (u : Tally). u.items) e in
-    (items, (omega arith, omega (arith, ap (λ (u : Tally). u.actions) e), omega (arith, ap (λ (u : Tally). u.action_options) e), omega (arith, ap (λ (u : Tally). u.length) e)))
 
 module _ (layer : ℕ) (f : Reader) (w : ℕ) (α β : Tally → ℕ) (q : Read Summary) where
   abbrev row_read : Read (List Summary) → Read Summary
@@ -66,8 +60,3 @@ module _ (layer : ℕ) (f : Reader) (w : ℕ) (α β : Tally → ℕ) (q : Read 
 
   pub nest-bad : (v : Walked) (e : FaultNumbers) → row_read (each layer f v) ≡ q → tally_all layer f v ≡ Err e → Err e ≡ tally_of q
   nest-bad v e = bad_by (each layer f v) e
-
-pub nest_bounds : (row t : Tally) (a o n : ℕ) → t ≡ tally 1 a o (4 + row.length) → Bounded row n → a ≤ n → o ≤ n → (t.items ≡ 1) × Bounded t (4 + n)
-nest_bounds row t a o n e b h i =
-    let items = ap (λ (u : Tally). u.items) e in
-    (items, (omega arith, omega (arith, ap (λ (u : Tally). u.actions) e), omega (arith, ap (λ (u : Tally). u.action_options) e), omega (arith, ap (λ (u : Tally). u.length) e, b.3)))

@@ -1,40 +1,25 @@
 -- Writing out a filter that reads: its lengths, its room, and its bytes. Assumes nothing.
-use Rattle.std.proofs.Common.{◌≡◌, ℕ, ◌<◌, ◌≤◌, cond, ltb, List, ◌∷◌, ◌++◌, map, length, take, drop, Ok, Err, sym, refl, ap, ◌∙◌, subst, zero-add, arith}
+use Rattle.std.proofs.Common.{◌≡◌, ℕ, ◌≤◌, cond, ltb, List, ◌∷◌, map, length, take, drop, Ok, Err, sym, refl, ap, ◌∙◌, subst, arith}
 use Rattle.std.specs.List.{AllByRecursion}
 use Rattle.std.proofs.lemmas.List.{take_at}
-use Rattle.std.proofs.lemmas.Bool.{cond-true, cond-false, lt-ltb, le-ltb, ltb-false}
+use Rattle.std.proofs.lemmas.Bool.{cond-false, le-ltb, ltb-false}
 use Rattle.model.specs.Numbers.{Bytes, Octets}
 use Rattle.model.specs.Faults.{FaultNumbers, fault, Read, ◌>>=◌}
 use Rattle.model.specs.Walk.{Walked, done, bad, item, walk}
 use Rattle.model.specs.Book.{Meaning, BookLaws}
-use Rattle.model.specs.Page.{over}
 use Rattle.model.specs.Reading.{FilterOption, Reading, each, read_option, read_options, read_filter}
 use Rattle.model.specs.Writing.{write_option, written, fitting, write_out, written_over, output_after}
 use Rattle.model.proofs.Each.{err-not-ok, ok_same, chain, passed}
 use Rattle.model.proofs.RoundTrip.{round_trip}
 use Rattle.filter.specs.declared.tally.Tally.{Tally}
-use Rattle.filter.specs.Summaries.{Summary, Reader, of_option, option_summary}
+use Rattle.filter.specs.Summaries.{Summary, of_option, option_summary}
 use Rattle.filter.specs.Nests.{written_row}
 use Rattle.filter.specs.Reads.{tally_of_reading, filter_tally}
-use Rattle.filter.specs.Writes.{Short, RoomForRow, row_form}
+use Rattle.filter.specs.Writes.{at_front, Short, RoomForRow, row_form}
 use Rattle.filter.specs.WriteOut.{payload_length, lengths_checked, written_length}
 use Rattle.filter.proofs.Contents.{each_mapped, row_of}
 
 -- ── the lengths, option by option ──
-module _ (f : Reader) (p w : ℕ) (x : Bytes) (r : Walked) where
-  checked_by : (q : Read ℕ) (k : Read (Unit {0})) (n : ℕ) → q ≡ Ok n → n ≤ 65531 → (q >>= λ n. cond (ltb 65531 n) (Err (fault 15 p 1)) k) ≡ k
-  checked_by q k n e h = ap (λ (y : Read ℕ). y >>= λ n. cond (ltb 65531 n) (Err (fault 15 p 1)) k) e ∙ cond-false (ltb 65531 n) (Err (fault 15 p 1)) k (le-ltb 65531 n h)
-
-  pub length_fits : (n : ℕ) → payload_length (f p w x) ≡ Ok n → n ≤ 65531 → lengths_checked f (item p w x r) ≡ lengths_checked f r
-  length_fits n e h = checked_by (payload_length (f p w x)) (lengths_checked f r) n e h
-
-  pub length_outgrows : (n : ℕ) → payload_length (f p w x) ≡ Ok n → 65531 < n → lengths_checked f (item p w x r) ≡ Err (fault 15 p 1)
-  length_outgrows n e h =
-      ap (λ (y : Read ℕ). y >>= λ n. cond (ltb 65531 n) (Err (fault 15 p 1)) (lengths_checked f r)) e ∙ cond-true (ltb 65531 n) (Err (fault 15 p 1)) (lengths_checked f r) (lt-ltb 65531 n h)
-
-  pub length-bad : (e : FaultNumbers) → payload_length (f p w x) ≡ Err e → lengths_checked f (item p w x r) ≡ Err e
-  length-bad e h = ap (λ (y : Read ℕ). y >>= λ n. cond (ltb 65531 n) (Err (fault 15 p 1)) (lengths_checked f r)) h
-
 module _ (m : Meaning) where
   -- where the options read, their lengths are those of the model
   pub lengths_are : (w : Walked) (r : Reading) → each 1 (read_option m) w ≡ Ok r → lengths_checked (option_summary m) w ≡ fitting w r
@@ -65,17 +50,6 @@ module _ (m : Meaning) where
 
     pub tally-reads : (t : Tally) → filter_tally m bs ≡ Ok t → (r : Reading) × ((read_filter m bs ≡ Ok r) × (tally_of_reading r ≡ t))
     tally-reads t e = let h = chain (read_filter m bs) (λ r. Ok (tally_of_reading r)) e in (h.0, (h.1.0, ok_same h.1.1))
-
-    pub tally_short : (t : Tally) → filter_tally m bs ≡ Ok t → length bs ≤ 65531
-    tally_short t e = let h = tally-reads t e in (reads_short h.0 h.1.0).0
-
-    bad_by : (q : Read Reading) (e : FaultNumbers) → (q >>= λ r. Ok (tally_of_reading r)) ≡ Err e → (q >>= λ r. fitting (walk 0 bs) r >>= λ _. Ok (length (written r))) ≡ Err e
-    bad_by (Ok r) e h = let z : ◌≡◌ {A = ℕ} 0 1 = cc in absurd (omega arith)
-    bad_by (Err d) e h = cc
-
-    -- ── the length of the written form ──
-    pub length_no_reading : (e : FaultNumbers) → filter_tally m bs ≡ Err e → Err e ≡ written_length m bs
-    length_no_reading e h = sym (bad_by (read_filter m bs) e h)
 
     by_lengths : (t : Tally) → filter_tally m bs ≡ Ok t → written_length m bs ≡ (lengths_checked (option_summary m) (walk 0 bs) >>= λ _. Ok t.length)
     by_lengths t e =
@@ -123,9 +97,6 @@ module _ (m : Meaning) where
           ∙ ap (λ (q : Read (Unit {0})). q >>= λ _. cond (ltb free (length (written k.reading))) (Err (fault 16 0 1)) (Ok (written k.reading))) k.fits
           ∙ ap (λ (i : ℕ). cond (ltb free i) (Err (fault 16 0 1)) (Ok (written k.reading))) k.size
 
-      pub no_room : (free : ℕ) → free < n → write_out m free bs ≡ Err (fault 16 0 1)
-      no_room free h = written_out free ∙ cond-true (ltb free n) (Err (fault 16 0 1)) (Ok (written k.reading)) (lt-ltb free n h)
-
       pub room : (free : ℕ) → n ≤ free → write_out m free bs ≡ Ok (written k.reading)
       room free h = written_out free ∙ cond-false (ltb free n) (Err (fault 16 0 1)) (Ok (written k.reading)) (le-ltb free n h)
 
@@ -135,18 +106,18 @@ module _ (m : Meaning) where
       row_is : written_row (map of_option k.reading) ≡ written k.reading
       row_is = row_of of_option write_option (λ o. refl) k.reading
 
-      pub row_room : (free : ℕ) → n ≤ free → RoomForRow (each 1 (option_summary m) (walk 0 bs)) 0 free
+      pub row_room : (free : ℕ) → n ≤ free → RoomForRow (each 1 (option_summary m) (walk 0 bs)) free
       row_room free h =
           let short = all_short (walk 0 bs) k.reading (reads_short k.reading k.reads).1 k.fits in
           let size = ap length row_is ∙ k.size in
-          subst (λ (q : Read (List Summary)). RoomForRow q 0 free) (sym summaries) (short, omega (arith, size, h))
+          subst (λ (q : Read (List Summary)). RoomForRow q free) (sym summaries) (short, omega (arith, size, h))
 
       pub row_bytes : row_form (each 1 (option_summary m) (walk 0 bs)) ≡ written k.reading
       row_bytes = ap row_form summaries ∙ row_is
 
       -- what the output holds
-      pub output_is : (old : Bytes) → n ≤ length old → over old 0 (written k.reading) ≡ output_after m old bs
-      output_is old h = ap (λ (i : ℕ). written k.reading ++ drop i old) (zero-add (length (written k.reading))) ∙ sym (ap (written_over old) (room (length old) h))
+      pub output_is : (old : Bytes) → n ≤ length old → at_front old (written k.reading) ≡ output_after m old bs
+      output_is old h = sym (ap (written_over old) (room (length old) h))
 
       -- and how that reads
       pub reads_again : (old : Bytes) → BookLaws m → Octets bs → n ≤ length old → n ≤ 65531 → read_filter m (take n (output_after m old bs)) ≡ read_filter m bs

@@ -1,3 +1,4 @@
+pub mod Parts
 pub mod Tallies
 pub mod Summaries
 pub mod Held

@@ -1,5 +1,5 @@
 -- What reading an attribute gives: the attribute that is written for it, and how many actions and action options are inside. Assumes nothing.
-use Rattle.std.specs.Prelude.{ℕ, ◌+◌, ◌≤◌, List, [], ◌∷◌, length, Ok}
+use Rattle.std.specs.Prelude.{ℕ, List, [], ◌∷◌, length, Ok}
 use Rattle.model.specs.Numbers.{Bytes}
 use Rattle.model.specs.Attributes.{Attribute, encode}
 use Rattle.model.specs.Faults.{Read, ◌>>=◌}
@@ -8,7 +8,6 @@ use Rattle.model.specs.Book.{Meaning}
 use Rattle.model.specs.Counts.{sum_of, options_in, actions_of}
 use Rattle.model.specs.Reading.{Action, ActionAttribute, FilterOption, each, as_read, read_attribute, read_action, read_option}
 use Rattle.model.specs.Writing.{write_attribute, write_action, write_option}
-use Rattle.netlink.specs.declared.buffer.NlaBuffer.{NlaBuffer}
 use Rattle.filter.specs.declared.tally.Tally.{Tally}
 use Rattle.filter.specs.Tallies.{nothing, joined}
 
@@ -38,10 +37,6 @@ tally_behind t layer f w = each layer f w >>= λ l. Ok (joined t (total l))
 
 abbrev pub tally_all : (layer : ℕ) → Reader → Walked → Read Tally
 tally_all layer f w = each layer f w >>= λ l. Ok (total l)
-
--- an attribute of a filter of at most 65,531 bytes
-abbrev pub InFilter : NlaBuffer → Type 0
-InFilter b = b.place + (4 + length b.value.now) ≤ 65531
 
 -- ── the four layers ──
 abbrev pub of_attribute : ActionAttribute → Summary

@@ -3,9 +3,9 @@ ghost use Rattle.filter.specs.Summaries.{action_summary};
 
 use crate::attributes::Attributes;
 use crate::form::{Form, read_inside, write_inside};
+use crate::part::Part;
 use crate::tally::Tally;
 use model::fault::{Fault, Layer};
-use netlink::buffer::NlaBuffer;
 use tc::book::Book;
 use tc_filter::action::TcAction;
 
@@ -18,29 +18,28 @@ pub(crate) struct Actions<'a, B> {
 impl<'a, B: Book> Form for Actions<'a, B> {
     ghost reads = { λ s. action_summary (B.Book.meaning s.book.now) };
 
-    fn read(&self, nla: &NlaBuffer<'_>) -> Result<Tally, Fault> {
-        let action = TcAction::parse(nla)?;
+    fn read(&self, part: &Part<'_>) -> Result<Tally, Fault> {
+        let action = TcAction::parse(&part.nla)?;
         let attributes = Attributes {
             book: self.book,
             kind: action.kind.as_bytes(),
         };
-        let row = read_inside(&attributes, nla, Layer::ActionAttribute)?;
+        let row = read_inside(&attributes, part, Layer::ActionAttribute)?;
         Ok(row.nest(0, row.action_options))
     }
 
-    fn write(&self, nla: &NlaBuffer<'_>, output: &mut [u8], at: usize) -> Result<usize, Fault> {
-        let action = TcAction::parse(nla)?;
+    fn write(&self, part: &Part<'_>, output: &mut [u8]) -> Result<usize, Fault> {
+        let action = TcAction::parse(&part.nla)?;
         let attributes = Attributes {
             book: self.book,
             kind: action.kind.as_bytes(),
         };
         write_inside(
             &attributes,
-            nla,
+            part,
             Layer::ActionAttribute,
             action.tab,
             output,
-            at,
         )
     }
 }

@@ -7,8 +7,9 @@ ghost use Rattle.filter.specs.Held.{HeldBy, content_heard};
 ghost use Rattle.filter.specs.Reads.{attribute_inside};
 
 use crate::action_options::ActionOptions;
-use crate::emission::emit_at;
+use crate::emission::write_nla;
 use crate::form::{Form, read_inside, write_inside};
+use crate::part::Part;
 use crate::tally::Tally;
 use model::fault::{Fault, Layer};
 use netlink::buffer::NlaBuffer;
@@ -40,23 +41,23 @@ fn inside<'a>(nla: &NlaBuffer<'a>) -> Result<Content<'a>, Fault>
 impl<'a, 'k, B: Book> Form for Attributes<'a, 'k, B> {
     ghost reads = { λ s. attribute_summary (B.Book.meaning s.book.now) s.kind.now };
 
-    fn read(&self, nla: &NlaBuffer<'_>) -> Result<Tally, Fault> {
-        match inside(nla)? {
+    fn read(&self, part: &Part<'_>) -> Result<Tally, Fault> {
+        match inside(&part.nla)? {
             Content::Leaf(leaf) => Ok(Tally::leaf(leaf.value_len())),
             Content::Nest(nest) => {
                 let options = ActionOptions {
                     book: self.book,
                     kind: self.kind,
                 };
-                let row = read_inside(&options, &nest, Layer::ActionOption)?;
+                let row = read_inside(&options, &Part { nla: nest }, Layer::ActionOption)?;
                 Ok(row.nest(0, row.items))
             }
         }
     }
 
-    fn write(&self, nla: &NlaBuffer<'_>, output: &mut [u8], at: usize) -> Result<usize, Fault> {
-        match inside(nla)? {
-            Content::Leaf(leaf) => Ok(emit_at(&leaf, output, at)),
+    fn write(&self, part: &Part<'_>, output: &mut [u8]) -> Result<usize, Fault> {
+        match inside(&part.nla)? {
+            Content::Leaf(leaf) => Ok(write_nla(&leaf, output)),
             Content::Nest(nest) => {
                 let options = ActionOptions {
                     book: self.book,
@@ -64,11 +65,10 @@ impl<'a, 'k, B: Book> Form for Attributes<'a, 'k, B> {
                 };
                 write_inside(
                     &options,
-                    &nest,
+                    &Part { nla: nest },
                     Layer::ActionOption,
                     OPTIONS_WORD,
                     output,
-                    at,
                 )
             }
         }

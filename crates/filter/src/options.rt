@@ -2,15 +2,16 @@
 ghost use Rattle.std.specs.Prelude.{◌≡◌, IfOk};
 ghost use Rattle.model.specs.Book.{Meaning};
 ghost use Rattle.model.specs.Faults.{answered};
-ghost use Rattle.filter.specs.Summaries.{InFilter, option_summary};
+ghost use Rattle.filter.specs.Summaries.{option_summary};
 ghost use Rattle.filter.specs.WriteOut.{payload_length};
 ghost use Rattle.tc_filter.specs.Leaves.{content_meant};
 ghost use Rattle.filter.specs.Held.{HeldBy, content_heard};
 ghost use Rattle.filter.specs.Reads.{option_inside};
 
 use crate::actions::Actions;
-use crate::emission::emit_at;
+use crate::emission::write_nla;
 use crate::form::{Form, read_inside, write_inside};
+use crate::part::Part;
 use crate::tally::Tally;
 use model::fault::{Fault, Layer};
 use netlink::buffer::NlaBuffer;
@@ -40,15 +41,14 @@ fn inside<'a>(nla: &NlaBuffer<'a>) -> Result<Content<'a>, Fault>
 
 impl<'a, B: Book> Options<'a, B> {
     /// How many bytes the payload of an option is written as.
-    pub(crate) fn payload_len(&self, nla: &NlaBuffer<'_>) -> Result<usize, Fault>
-        requires { InFilter nla.now }
-        ensures { answered result ≡ payload_length (option_summary (B.Book.meaning self.now.book.now) nla.now.place nla.now.word nla.now.value.now) }
+    pub(crate) fn payload_len(&self, part: &Part<'_>) -> Result<usize, Fault>
+        ensures { answered result ≡ payload_length (option_summary (B.Book.meaning self.now.book.now) part.now.nla.place part.now.nla.word part.now.nla.value.now) }
     {
-        match inside(nla)? {
+        match inside(&part.nla)? {
             Content::Leaf(leaf) => Ok(leaf.value_len()),
             Content::Nest(nest) => {
                 let actions = Actions { book: self.book };
-                let row = read_inside(&actions, &nest, Layer::Action)?;
+                let row = read_inside(&actions, &Part { nla: nest }, Layer::Action)?;
                 Ok(row.length)
             }
         }
@@ -58,23 +58,29 @@ impl<'a, B: Book> Options<'a, B> {
 impl<'a, B: Book> Form for Options<'a, B> {
     ghost reads = { λ s. option_summary (B.Book.meaning s.book.now) };
 
-    fn read(&self, nla: &NlaBuffer<'_>) -> Result<Tally, Fault> {
-        match inside(nla)? {
+    fn read(&self, part: &Part<'_>) -> Result<Tally, Fault> {
+        match inside(&part.nla)? {
             Content::Leaf(leaf) => Ok(Tally::leaf(leaf.value_len())),
             Content::Nest(nest) => {
                 let actions = Actions { book: self.book };
-                let row = read_inside(&actions, &nest, Layer::Action)?;
+                let row = read_inside(&actions, &Part { nla: nest }, Layer::Action)?;
                 Ok(row.nest(row.items, row.action_options))
             }
         }
     }
 
-    fn write(&self, nla: &NlaBuffer<'_>, output: &mut [u8], at: usize) -> Result<usize, Fault> {
-        match inside(nla)? {
-            Content::Leaf(leaf) => Ok(emit_at(&leaf, output, at)),
+    fn write(&self, part: &Part<'_>, output: &mut [u8]) -> Result<usize, Fault> {
+        match inside(&part.nla)? {
+            Content::Leaf(leaf) => Ok(write_nla(&leaf, output)),
             Content::Nest(nest) => {
                 let actions = Actions { book: self.book };
-                write_inside(&actions, &nest, Layer::Action, ACTIONS_WORD, output, at)
+                write_inside(
+                    &actions,
+                    &Part { nla: nest },
+                    Layer::Action,
+                    ACTIONS_WORD,
+                    output,
+                )
             }
         }
     }

@@ -8,6 +8,7 @@ ghost use Rattle.filter.specs.Reads.{filter_tally, read_counts, counts_heard, ac
 use crate::actions::Actions;
 use crate::form::{Form, read_each};
 use crate::options::Options;
+use crate::part::{Part, Row};
 use crate::tally::Tally;
 use model::fault::{Cause, Fault, Layer};
 use netlink::buffer::NlaBuffer;
@@ -38,6 +39,18 @@ fn too_long() -> Fault
     }
 }
 
+impl From<Tally> for Counts {
+    ghost from_gives = { λ t c. c ≡ record { options = t.items; actions = t.actions; action_options = t.action_options } };
+
+    fn from(tally: Tally) -> Counts {
+        Counts {
+            options: tally.items,
+            actions: tally.actions,
+            action_options: tally.action_options,
+        }
+    }
+}
+
 /// Reads a filter, and answers its numbers or its first fault.
 pub(crate) fn tally<B: Book>(book: &B, filter: &[u8]) -> Result<Tally, Fault>
     ensures { answered result ≡ filter_tally (B.Book.meaning book.now) filter.now }
@@ -47,7 +60,9 @@ pub(crate) fn tally<B: Book>(book: &B, filter: &[u8]) -> Result<Tally, Fault>
     }
     read_each(
         &Options { book },
-        NlasIterator::new(filter, Layer::FilterOption),
+        Row {
+            walk: NlasIterator::new(filter, Layer::FilterOption),
+        },
     )
 }
 
@@ -55,12 +70,7 @@ pub(crate) fn tally<B: Book>(book: &B, filter: &[u8]) -> Result<Tally, Fault>
 pub fn read<B: Book>(book: &B, filter: &[u8]) -> Result<Counts, Fault>
     ensures { counts_heard result ≡ read_counts (B.Book.meaning book.now) filter.now }
 {
-    let tally = tally(book, filter)?;
-    Ok(Counts {
-        options: tally.items,
-        actions: tally.actions,
-        action_options: tally.action_options,
-    })
+    Ok(Counts::from(tally(book, filter)?))
 }
 
 /// Reads one action with a book: the one whose head stands at `place`, and which ends with the bytes. The length in its head is not looked at.
@@ -85,6 +95,6 @@ pub fn read_action<B: Book>(book: &B, bytes: &[u8], place: usize) -> Result<(), 
         word: 0,
         value: &bytes[place + 4..],
     };
-    let _ = Actions { book }.read(&action)?;
+    let _ = Actions { book }.read(&Part { nla: action })?;
     Ok(())
 }

@@ -1,6 +1,5 @@
 // Whether two filters are one.
 ghost use Rattle.std.specs.Prelude.{◌≡◌, length, IfOk, Decides};
-ghost use Rattle.std.specs.Str.{bytes_eq};
 ghost use Rattle.model.specs.Reading.{read_filter};
 ghost use Rattle.model.specs.Writing.{output_after};
 ghost use Rattle.filter.specs.WriteOut.{compared, comparison, second_after};
@@ -23,13 +22,6 @@ pub struct Unwritten {
     pub fault: Fault,
 }
 
-/// Whether two rows of bytes are the same.
-fn equal(first: &[u8], second: &[u8]) -> bool
-    ensures { result ≡ bytes_eq first.now second.now }
-{
-    first == second
-}
-
 /// Whether two filters are one: written out, each into an output of its own, they are the same bytes exactly if their readings are equal.
 /// A filter that is not written out is the answer; the second is looked at only if the first is written.
 pub fn same<B: Book>(
@@ -44,19 +36,13 @@ pub fn same<B: Book>(
     ensures first { first_output.new ≡ output_after (B.Book.meaning book.now) first_output.old first.now }
     ensures second { second_output.new ≡ second_after (B.Book.meaning book.now) (length first_output.old) first.now second_output.old second.now }
 {
-    let one = match write_out(book, first, first_output) {
-        Ok(size) => size,
-        Err(fault) => return Err(Unwritten {
-            which: Which::First,
-            fault,
-        }),
-    };
-    let other = match write_out(book, second, second_output) {
-        Ok(size) => size,
-        Err(fault) => return Err(Unwritten {
-            which: Which::Second,
-            fault,
-        }),
-    };
-    Ok(equal(&first_output[0..one], &second_output[0..other]))
+    let one = write_out(book, first, first_output).map_err(|fault| Unwritten {
+        which: Which::First,
+        fault,
+    })?;
+    let other = write_out(book, second, second_output).map_err(|fault| Unwritten {
+        which: Which::Second,
+        fault,
+    })?;
+    Ok(first_output[0..one] == second_output[0..other])
 }

@@ -1,10 +1,12 @@
 // What reading a row of attributes finds, in numbers.
-ghost use Rattle.std.specs.Prelude.{◌≡◌, ◌+◌, ◌*◌, ◌^◌, ◌<◌, ◌≤◌};
+ghost use Rattle.std.specs.Prelude.{◌≡◌, ◌+◌, ◌*◌, ◌≤◌};
 ghost use Rattle.model.specs.Attributes.{rounded};
-ghost use Rattle.filter.specs.Tallies.{joined};
+ghost use Rattle.filter.specs.Tallies.{Addable, joined};
+
+use std::ops::Add;
 
 /// The numbers of a row of attributes: how many they are, how many actions and action options are inside, and how many bytes their written form has.
-#[derive(Clone, Copy)]
+#[derive(Clone, Copy, Default)]
 pub(crate) struct Tally {
     pub(crate) items: usize,
     pub(crate) actions: usize,
@@ -38,15 +40,17 @@ impl Tally {
             length: 4 + self.length,
         }
     }
+}
 
-    /// One row behind the other.
-    pub(crate) fn join(self, other: Tally) -> Tally
-        requires items { self.items + other.items < 2 ^ 64 }
-        requires actions { self.actions + other.actions < 2 ^ 64 }
-        requires options { self.action_options + other.action_options < 2 ^ 64 }
-        requires length { self.length + other.length < 2 ^ 64 }
-        ensures { result ≡ joined self other }
-    {
+/// One row behind the other.
+impl Add for Tally {
+    type Output = Tally;
+
+    ghost can_add = { Addable };
+
+    ghost add_gives = { λ s t r. r ≡ joined s t };
+
+    fn add(self, other: Tally) -> Tally {
         Tally {
             items: self.items + other.items,
             actions: self.actions + other.actions,

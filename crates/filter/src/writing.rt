@@ -10,6 +10,7 @@ ghost use Rattle.filter.specs.WriteOut.{lengths_checked, written_length, length_
 
 use crate::form::write_each;
 use crate::options::Options;
+use crate::part::Row;
 use crate::reading::tally;
 use model::fault::{Cause, Fault, Layer};
 use netlink::walker::NlasIterator;
@@ -37,10 +38,13 @@ fn check_lengths<B: Book>(book: &B, filter: &[u8]) -> Result<(), Fault>
     ensures { answered result ≡ lengths_checked (option_summary (B.Book.meaning book.now)) (walk 0 filter.now) }
 {
     let options = Options { book };
-    for nla in NlasIterator::new(filter, Layer::FilterOption) {
-        let nla = nla?;
-        if options.payload_len(&nla)? > LONGEST_PAYLOAD {
-            return Err(not_written(Cause::PayloadTooLong, nla.place));
+    let row = Row {
+        walk: NlasIterator::new(filter, Layer::FilterOption),
+    };
+    for part in row {
+        let part = part?;
+        if options.payload_len(&part)? > LONGEST_PAYLOAD {
+            return Err(not_written(Cause::PayloadTooLong, part.nla.place));
         }
     }
     Ok(())
@@ -68,8 +72,9 @@ pub fn write_out<B: Book>(book: &B, filter: &[u8], output: &mut [u8]) -> Result<
     }
     write_each(
         &Options { book },
-        NlasIterator::new(filter, Layer::FilterOption),
+        Row {
+            walk: NlasIterator::new(filter, Layer::FilterOption),
+        },
         output,
-        0,
     )
 }

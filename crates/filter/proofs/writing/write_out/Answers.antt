@@ -1,7 +1,6 @@
-use Rattle.std.proofs.Common.{◌≡◌, ℕ, ◌+◌, ◌≤◌, length, take, IfOk, Ok, Result, sym, ap, ◌∙◌, subst, zero-add, arith}
+use Rattle.std.proofs.Common.{◌≡◌, ℕ, ◌≤◌, length, take, IfOk, Ok, Result, sym, ap, ◌∙◌, subst, arith}
 use Rattle.model.specs.Numbers.{Bytes}
 use Rattle.model.specs.Faults.{Read, ◌>>=◌, answered, layer_number}
-use Rattle.model.specs.Page.{over}
 use Rattle.model.specs.Reading.{each, read_filter}
 use Rattle.model.specs.Walk.{Walked}
 use Rattle.model.specs.Writing.{written, output_after}
@@ -10,8 +9,8 @@ use Rattle.model.specs.declared.fault.Layer.{Layer}
 use Rattle.netlink.specs.Walking.{ahead}
 use Rattle.tc.proofs.Told.{octets}
 use Rattle.filter.specs.Summaries.{option_summary}
-use Rattle.filter.specs.Writes.{RoomForRow, row_form}
-use Rattle.filter.proofs.WriteOuts.{reads_short, written_of, room, row_room, row_bytes, output_is, reads_again}
+use Rattle.filter.specs.Writes.{at_front, RoomForRow, row_form}
+use Rattle.filter.proofs.WriteOuts.{written_of, room, row_room, row_bytes, output_is, reads_again}
 use Rattle.filter.proofs.writing.write_out.Goals as goal
 
 pub write_each-requires : goal.write_each-requires
@@ -20,11 +19,8 @@ write_each-requires g c =
     let bs = c.args.filter.now in
     let k = written_of m bs c.in_ok-size.size (sym c.written_len.ensures ∙ ap answered c.in_ok-size.was) in
     let free = length c.args.output.now in
-    let there = subst (λ (w : Walked). RoomForRow (each 1 (option_summary m) w) 0 free) (sym c.new.ensures.walks) (row_room m bs k free (omega arith)) in
-    record {
-      inside = omega (arith, c.new.ensures.ends, (reads_short m bs k.reading k.reads).0);
-      room = subst (λ (l : Layer). RoomForRow (each (layer_number l) (option_summary m) (ahead c.new.result)) 0 free) (sym c.new.ensures.layer) there;
-    }
+    let there = subst (λ (w : Walked). RoomForRow (each 1 (option_summary m) w) free) (sym c.new.ensures.walks) (row_room m bs k free (omega arith)) in
+    subst (λ (l : Layer). RoomForRow (each (layer_number l) (option_summary m) (ahead c.new.result)) free) (sym c.new.ensures.layer) there
 
 pub returns : goal.returns
 returns g c =
@@ -36,9 +32,8 @@ returns g c =
     let k = written_of m bs n (sym c.written_len.ensures ∙ ap answered c.in_ok-size.was) in
     let same = ap (λ (l : Layer). each (layer_number l) (option_summary m) (ahead c.new.result)) c.new.ensures.layer ∙ ap (each 1 (option_summary m)) c.new.ensures.walks in
     let row : row_form (each (layer_number c.new.result.layer) (option_summary m) (ahead c.new.result)) ≡ written k.reading = ap row_form same ∙ row_bytes m bs k in
-    let end : 0 + length (written k.reading) ≡ n = zero-add (length (written k.reading)) ∙ k.size in
-    let value : c.write_each.result ≡ Ok n = c.write_each.ensures.value ∙ ap {B = Result ℕ Fault} (λ (x : Bytes). Ok (0 + length x)) row ∙ ap {B = Result ℕ Fault} Ok end in
-    let after : c.write_each.new.output ≡ output_after m old bs = c.write_each.ensures.after ∙ ap (over old 0) row ∙ output_is m bs k old (omega arith) in
+    let value : c.write_each.result ≡ Ok n = c.write_each.ensures.value ∙ ap {B = Result ℕ Fault} (λ (x : Bytes). Ok (length x)) row ∙ ap {B = Result ℕ Fault} Ok k.size in
+    let after : c.write_each.new.output ≡ output_after m old bs = c.write_each.ensures.after ∙ ap (at_front old) row ∙ output_is m bs k old (omega arith) in
     record {
       value = ap answered value ∙ ap {B = Read ℕ} (λ (i : ℕ). Ok i) (sym k.size) ∙ sym (ap (λ (q : Read Bytes). q >>= λ x. Ok (length x)) (room m bs k (length old) (omega arith)));
       after = after;

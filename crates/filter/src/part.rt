@@ -1,0 +1,58 @@
+// An attribute, and a row of attributes, of a filter that is not too long.
+ghost use Rattle.std.specs.Prelude.{◌≡◌, ◌+◌, ◌≤◌, length};
+ghost use Rattle.std.specs.Iterator.{at_most};
+ghost use Rattle.model.specs.Walk.{walk};
+ghost use Rattle.netlink.specs.Walking.{ahead};
+
+use model::fault::{Fault, Layer};
+use netlink::buffer::NlaBuffer;
+use netlink::walker::NlasIterator;
+
+/// An attribute of a filter of at most 65,531 bytes.
+#[derive(Clone, Copy)]
+pub(crate) struct Part<'a> {
+    pub(crate) nla: NlaBuffer<'a>,
+    ghost inside: { nla.place + (4 + length nla.value.now) ≤ 65531 },
+}
+
+/// A row of attributes of a filter of at most 65,531 bytes.
+#[derive(Clone, Copy)]
+pub(crate) struct Row<'a> {
+    pub(crate) walk: NlasIterator<'a>,
+    ghost inside: { walk.end ≤ 65531 },
+}
+
+impl<'a> Part<'a> {
+    /// The row of attributes in the payload.
+    pub(crate) fn row(&self, layer: Layer) -> Row<'a>
+        ensures walks { ahead result.walk ≡ walk (self.now.nla.place + 4) self.now.nla.value.now }
+        ensures rest { result.walk.rest.now ≡ self.now.nla.value.now }
+        ensures layer { result.walk.layer ≡ layer }
+    {
+        Row {
+            walk: self.nla.nested(layer),
+        }
+    }
+}
+
+impl<'a> Iterator for Row<'a> {
+    ghost use Rattle.filter.specs.Parts.{PartGoes};
+
+    type Item = Result<Part<'a>, Fault>;
+
+    ghost can_next = { λ _. Unit {0} };
+
+    ghost next_gives = { PartGoes };
+
+    ghost remaining = { λ s. at_most (length s.walk.rest.now) };
+
+    fn next(&mut self) -> Option<Result<Part<'a>, Fault>> {
+        match self.walk.next() {
+            Some(found) => match found {
+                Ok(nla) => Some(Ok(Part { nla })),
+                Err(fault) => Some(Err(fault)),
+            },
+            None => None,
+        }
+    }
+}
