@@ -8,10 +8,11 @@ ghost use Rattle.filter.specs.Tallies.{Bounded};
 ghost use Rattle.filter.specs.Writes.{at_front, RoomFor, form_of, RoomForRow, row_form, RoomAround, form_around};
 ghost use Rattle.filter.specs.Summaries.{Reader, tally_of, tally_all};
 
-use crate::emission::write_head;
 use crate::part::{Part, Row};
 use crate::tally::Tally;
 use model::fault::{Fault, Layer};
+use netlink::nla::head;
+use netlink::overwrite::overwrite;
 
 /// How the attributes of one layer are read.
 pub(crate) trait Form {
@@ -78,6 +79,6 @@ pub(crate) fn write_inside<F: Form>(
     ensures after { output.new ≡ at_front output.old (form_around word (each (layer_number layer) (F.Form.reads form.now) (walk (part.now.nla.place + 4) part.now.nla.value.now))) }
 {
     let size = 4 + write_each(form, part.row(layer), &mut output[4..])?;
-    write_head(output, size, word);
+    overwrite(output, 0, &head(size as u16, word));
     Ok(size)
 }

@@ -1,12 +1,22 @@
-// An attribute, and a row of attributes, of a filter that is not too long.
-ghost use Rattle.std.specs.Prelude.{◌≡◌, ◌+◌, ◌≤◌, length};
+// A filter that is not too long, an attribute of it, and a row of attributes of it.
+ghost use Rattle.std.specs.Prelude.{◌≡◌, ◌+◌, ◌<◌, ◌≤◌, length, IfOk, IfErr};
+ghost use Rattle.model.specs.declared.fault.Cause.TheVariants.{TooLong};
+ghost use Rattle.model.specs.declared.fault.Layer.TheVariants.{FilterOption};
 ghost use Rattle.std.specs.Iterator.{at_most};
 ghost use Rattle.model.specs.Walk.{walk};
 ghost use Rattle.netlink.specs.Walking.{ahead};
 
-use model::fault::{Fault, Layer};
+use crate::reading::LONGEST_FILTER;
+use model::fault::{Cause, Fault, Layer};
 use netlink::buffer::NlaBuffer;
 use netlink::walker::NlasIterator;
+
+/// A filter of at most 65,531 bytes.
+#[derive(Clone, Copy)]
+pub(crate) struct Filter<'a> {
+    pub(crate) bytes: &'a [u8],
+    ghost short: { length bytes.now ≤ 65531 },
+}
 
 /// An attribute of a filter of at most 65,531 bytes.
 #[derive(Clone, Copy)]
@@ -20,6 +30,29 @@ pub(crate) struct Part<'a> {
 pub(crate) struct Row<'a> {
     pub(crate) walk: NlasIterator<'a>,
     ghost inside: { walk.end ≤ 65531 },
+}
+
+impl<'a> Filter<'a> {
+    /// The bytes as a filter, where they are not too many.
+    pub(crate) fn new(bytes: &'a [u8]) -> Result<Filter<'a>, Fault>
+        ensures fits { IfOk result (λ f. f.bytes ≡ bytes.entry) }
+        ensures refused { IfErr result (λ e. (65531 < length bytes.entry.now) × (e ≡ record { cause = TooLong; place = 0; layer = FilterOption; need = 0; number = 0 })) }
+    {
+        if bytes.len() > LONGEST_FILTER {
+            return Err(Fault::new(Cause::TooLong, 0, Layer::FilterOption));
+        }
+        Ok(Filter { bytes })
+    }
+
+    /// The row of its options.
+    pub(crate) fn row(&self) -> Row<'a>
+        ensures walks { ahead result.walk ≡ walk 0 self.now.bytes.now }
+        ensures layer { result.walk.layer ≡ FilterOption }
+    {
+        Row {
+            walk: NlasIterator::new(self.bytes, Layer::FilterOption),
+        }
+    }
 }
 
 impl<'a> Part<'a> {

@@ -13,8 +13,8 @@ pub returns-clause-reads : goal.returns-clause-reads
 returns-clause-reads c =
     let b = c.args.nla.now in
     λ m k.
-      ap (λ (i : Inside). read_in_attribute m k i) c.attribute_content.ensures
-      ∙ attribute_reads_inside m k b.place b.word b.value.now c.parse.result c.context.result (c.parse.ensures.reads m k) c.context.ensures c.in_ok-attribute.attribute c.in_ok-attribute.was
+    ap (λ (i : Inside). read_in_attribute m k i) c.attribute_content.ensures
+    ∙ attribute_reads_inside m k b.place b.word b.value.now c.parse.result c.context.result (c.parse.ensures.reads m k) c.context.ensures c.in_ok-attribute.attribute c.in_ok-attribute.was
 
 pub returns-in_err-attribute-clause-reads : goal.returns-in_err-attribute-clause-reads
 returns-in_err-attribute-clause-reads c =

@@ -13,8 +13,8 @@ pub returns-clause-reads : goal.returns-clause-reads
 returns-clause-reads c =
     let b = c.args.nla.now in
     λ m.
-      ap (λ (i : Inside). read_in_option m i) c.option_content.ensures
-      ∙ option_reads_inside m b c.parse.result c.context.result (c.parse.ensures.reads m) c.parse.ensures.part c.context.ensures c.in_ok-option.option c.in_ok-option.was
+    ap (λ (i : Inside). read_in_option m i) c.option_content.ensures
+    ∙ option_reads_inside m b c.parse.result c.context.result (c.parse.ensures.reads m) c.parse.ensures.part c.context.ensures c.in_ok-option.option c.in_ok-option.was
 
 pub returns-in_err-option-clause-reads : goal.returns-in_err-option-clause-reads
 returns-in_err-option-clause-reads c =

@@ -10,6 +10,6 @@ pub returns : goal.returns
 returns g c =
     let m = g.B.Book.meaning c.args.book.now in
     c.read_each.ensures.value
-    ∙ ap (λ (l : Layer). tally_all (layer_number l) (option_summary m) (ahead c.new.result)) c.new.ensures.layer
-    ∙ ap (tally_all 1 (option_summary m)) c.new.ensures.walks
-    ∙ filter_is m c.args.filter.now (omega arith)
+    ∙ ap (λ (l : Layer). tally_all (layer_number l) (option_summary m) (ahead c.row.result.walk)) c.row.ensures.layer
+    ∙ ap (tally_all 1 (option_summary m)) c.row.ensures.walks
+    ∙ filter_is m c.args.filter.now.bytes.now (omega arith)

@@ -10,5 +10,5 @@ abbrev pub invariant-loop-part : goal.invariant-loop-part
 invariant-loop-part g l =
     (goal.iterator-loop-part g).can_next l.part-iterator
     × (goal.iterator-loop-part g).is_finite l.part-iterator
-    × (lengths_checked (option_summary (g.B.Book.meaning l.book)) (ahead l.part-iterator.walk) ≡ lengths_checked (option_summary (g.B.Book.meaning l.book)) (walk 0 l.filter))
+    × (lengths_checked (option_summary (g.B.Book.meaning l.book)) (ahead l.part-iterator.walk) ≡ lengths_checked (option_summary (g.B.Book.meaning l.book)) (walk 0 l.filter.bytes.now))
     × (l.part-iterator.walk.layer ≡ FilterOption)

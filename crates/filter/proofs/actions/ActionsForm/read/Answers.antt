@@ -20,7 +20,7 @@ returns-in_err-row-clause-value g c =
     let p = err_from_is_err_and c.from_residual-in_err-row.result c.from_residual-in_err-row.ensures.1 in
     let read = ap (λ (k : Bytes). tally_all 3 (attribute_summary m k) row) (sym c.as_bytes.ensures.value) ∙ sym c.read_inside.ensures.value ∙ ap answered c.in_err-row.was in
     ap answered p.1 ∙ ap (λ (h : Fault). Err (numbers h)) p.2
-      ∙ nest-bad 3 (attribute_summary m a.kind.now) (type_of b.word) none options_of _ row (numbers c.in_err-row.field-0.0) (action-as_read b m c.args.part.now.inside c.parse.result a c.parse.ensures.found c.in_ok-action.was) read
+    ∙ nest-bad 3 (attribute_summary m a.kind.now) (type_of b.word) none options_of _ row (numbers c.in_err-row.field-0.0) (action-as_read b m c.args.part.now.inside c.parse.result a c.parse.ensures.found c.in_ok-action.was) read
 
 pub returns-clause-value : goal.returns-clause-value
 returns-clause-value g c =

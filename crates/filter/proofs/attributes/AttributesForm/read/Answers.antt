@@ -26,7 +26,7 @@ returns-in_err-row-in-Nest-clause-value g c =
     let p = err_from_is_err_and c.from_residual-in_err-row-in-Nest.result c.from_residual-in_err-row-in-Nest.ensures.1 in
     let row = sym c.read_inside.ensures.value ∙ ap answered c.in_err-row-in-Nest.was in
     ap answered p.1 ∙ ap (λ (h : Fault). Err (numbers h)) p.2
-      ∙ nest-bad 4 (action_option_summary m k) 0x8002 none items_of _ (walk (nest.place + 4) nest.value.now) (numbers f) reads row
+    ∙ nest-bad 4 (action_option_summary m k) 0x8002 none items_of _ (walk (nest.place + 4) nest.value.now) (numbers f) reads row
 
 pub returns-in-Leaf-clause-value : goal.returns-in-Leaf-clause-value
 returns-in-Leaf-clause-value g c =
