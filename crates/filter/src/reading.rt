@@ -10,10 +10,11 @@ use crate::part::{Filter, Part};
 use crate::tally::Tally;
 use model::fault::{Cause, Fault, Layer};
 use netlink::buffer::NlaBuffer;
+use netlink::nla::LONGEST_PAYLOAD;
 use tc::book::Book;
 
-/// The most bytes that a filter may have.
-pub const LONGEST_FILTER: usize = 65531;
+/// The most bytes that a filter may have: it is itself the payload of an attribute.
+pub const LONGEST_FILTER: usize = LONGEST_PAYLOAD;
 
 /// What a filter counts: its options, the actions in them, and the options of these actions.
 #[derive(Clone, Copy)]
