@@ -3,7 +3,6 @@ ghost use Rattle.std.specs.Prelude.{◌≡◌, ℕ, ◌+◌, ◌≤◌, List, le
 ghost use Rattle.model.specs.Page.{state};
 ghost use Rattle.model.specs.Runs.{Turn, run};
 ghost use Rattle.netlink.specs.Walking.{ahead};
-ghost use Rattle.filter.specs.Summaries.{InFilter};
 ghost use Rattle.page.specs.Pages.{as_page};
 ghost use Rattle.page_build.specs.Fillings.{row_turns};
 
@@ -19,7 +18,7 @@ pub(crate) trait Filler {
 
     /// Puts an attribute on the page, with all that is inside. What the calls answer is let go: after a refusal the others are still made.
     fn fill<B: Book>(&self, book: &B, page: &mut Page, memory: &mut [u8], nla: &NlaBuffer<'_>)
-        requires { InFilter nla.now }
+        requires { nla.now.place + (4 + length nla.now.value.now) ≤ 65531 }
         ensures { state (as_page page.new) memory.new ≡ run (B.Book.meaning book.now) (state (as_page page.old) memory.old) (turns self.now nla.now.place nla.now.word nla.now.value.now) };
 }
 
