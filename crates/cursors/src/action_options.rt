@@ -61,6 +61,7 @@ impl<'a, 'b, 'k, B: Book> ActionOptions<'a, 'b, 'k, B> {
         }
     }
 
+    // A `bool`, since a book's second call answers yes or no.
     /// Writes the payload that is written of an option into memory of just its length. Memory of another length stays as it was, with a `false`.
     pub fn write(&self, option: &JudgedOption<'_>, memory: &mut [u8]) -> bool
         ensures value { result ≡ writes (B.Book.meaning self.now.book.now self.now.kind.now option.now.nla.word option.now.nla.value.now) memory.old }

@@ -13,14 +13,14 @@ use crate::part::Part;
 use crate::tally::Tally;
 use model::fault::{Fault, Layer};
 use netlink::buffer::NlaBuffer;
-use netlink::nla::Nla;
+use netlink::nla::{NLA_F_NESTED, Nla};
 use payload::error::ErrorContext;
 use tc::book::Book;
-use tc_filter::action_attribute::TcActionAttribute;
+use tc_filter::action_attribute::{TCA_ACT_OPTIONS, TcActionAttribute};
 use tc_filter::content::{Content, attribute_content};
 
-/// The word of an action's options: type 2, with the flag of nested attributes.
-const OPTIONS_WORD: u16 = 0x8002;
+/// The word of an action's options: their type, with the flag of nested attributes.
+const OPTIONS_WORD: u16 = NLA_F_NESTED + TCA_ACT_OPTIONS;
 
 /// The attributes of an action of one kind.
 #[derive_where(Clone, Copy)]
@@ -29,6 +29,7 @@ pub(crate) struct Attributes<'a, 'k, B> {
     pub(crate) kind: &'k [u8],
 }
 
+// As for a filter's options, but what is parsed has another type and layer, and its contract holds for every kind: one function of both would be no plainer.
 /// What an attribute holds, as far as no book is asked.
 fn inside<'a>(nla: &NlaBuffer<'a>) -> Result<Content<'a>, Fault>
     ensures reads { (m : Meaning) (k : List ℕ) → attribute_inside m k (content_heard result) ≡ attribute_summary m k nla.now.place nla.now.word nla.now.value.now }

@@ -18,11 +18,8 @@ use netlink::buffer::NlaBuffer;
 use netlink::nla::Nla;
 use payload::error::ErrorContext;
 use tc::book::Book;
-use tc_filter::cls_u32::TcFilterU32Option;
+use tc_filter::cls_u32::{TCA_U32_ACT, TcFilterU32Option};
 use tc_filter::content::{Content, option_content};
-
-/// The word of a list of actions: type 7.
-const ACTIONS_WORD: u16 = 7;
 
 /// The options of a filter.
 #[derive_where(Clone, Copy)]
@@ -78,7 +75,7 @@ impl<'a, B: Book> Form for Options<'a, B> {
                     &actions,
                     &Part { nla: nest },
                     Layer::Action,
-                    ACTIONS_WORD,
+                    TCA_U32_ACT,
                     output,
                 )
             }

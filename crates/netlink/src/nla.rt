@@ -14,6 +14,9 @@ pub const LONGEST_PAYLOAD: usize = 65531;
 /// The padding behind a payload, of which so many zeros are written as are needed.
 pub const ZEROS: [u8; 3] = [0, 0, 0];
 
+/// The flag of an attribute that holds attributes. It stands in the word beside the type.
+pub const NLA_F_NESTED: u16 = 0x8000;
+
 /// A value that is written as an attribute: it means a word and a payload.
 pub trait Nla {
     /// The type with its flags.
@@ -29,6 +32,7 @@ pub trait Nla {
     fn kind(&self) -> u16
         ensures { result ≡ word self.now };
 
+    // A `bool`: there is one refusal, and an error type of one value would say no more.
     /// Writes the payload whole into a buffer of just its length. A buffer of another length gets a `false`, and stays as it was.
     fn emit_value(&self, buffer: &mut [u8]) -> bool
         ensures value { result ≡ (length (payload self.now) == length buffer.old) }

@@ -8,6 +8,7 @@ use model::fault::Layer;
 pub struct NlasIterator<'a> {
     /// What is left to walk.
     rest: &'a [u8],
+    // No length beside `rest`, but the place at which it ends: the place of what is left follows from both.
     /// The place behind the part's last byte, in bytes from the start of the filter.
     end: usize,
     /// The layer of the attributes that are found.

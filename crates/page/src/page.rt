@@ -8,6 +8,7 @@ use crate::level::Level;
 /// Its memory is handed to each call; the page's bytes are those below the used length.
 #[derive(Drop)]
 pub struct Page {
+    // Lengths of memory that the caller holds and lends to each call.
     size: usize,
     used: usize,
     level: Level,

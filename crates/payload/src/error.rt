@@ -26,6 +26,7 @@ impl DecodeError {
         }
     }
 
+    // Beside `wrong_length` and not one with it: a caller names what is wrong by a word, and the cause is the whole difference.
     /// A payload is shorter than what has to stand in it.
     pub fn too_short(need: usize) -> DecodeError
         ensures { result ≡ record { cause = TooShort; need = need } }

@@ -32,6 +32,7 @@ impl fmt::Display for Ipv4Addr {
     }
 }
 
+// A part of the payload and no array, as every raw part of a filter is.
 /// An IPv6 address: the 16 bytes of the payload.
 #[derive(Clone, Copy)]
 pub struct Ipv6Addr<'a> {

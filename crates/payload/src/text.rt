@@ -45,6 +45,7 @@ fn lowest_second(first: u8) -> u8
     }
 }
 
+// Two tables of one shape: as one function with a flag they would be no plainer.
 /// The highest second byte of a character.
 fn highest_second(first: u8) -> u8
     ensures { result ≡ high first }

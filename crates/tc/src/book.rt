@@ -68,6 +68,7 @@ pub trait Book {
     fn judge(&self, kind: &[u8], word: u16, payload: &[u8]) -> Result<Judged, Refusal>
         ensures { judged result ≡ judgement (meaning self.now kind.now word payload.now) };
 
+    // A `bool`, since a book's second call answers yes or no. Kind, word and payload are what a book is asked with; as one struct every book would take it apart again.
     /// Writes the payload that is written of the option into memory of just its length, whole. Memory of another length, or a refused
     /// option, gets a `false`, and the memory stays as it was.
     fn write(&self, kind: &[u8], word: u16, payload: &[u8], memory: &mut [u8]) -> bool

@@ -23,6 +23,7 @@ pub enum Leaf<'a> {
     Bytes(DefaultNla<'a>),
 }
 
+// A `bool`, as `emit_value` answers.
 /// Writes a text and one zero into a buffer of just their length.
 fn fill_text(buffer: &mut [u8], text: &str) -> bool
     ensures value { result ≡ (length (text.now ++ 0 ∷ []) == length buffer.old) }

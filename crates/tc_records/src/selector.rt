@@ -22,6 +22,7 @@ pub struct TcU32Selector<'a> {
     pub flags: u8,
     /// The right shift of the variable offset.
     pub offshift: u8,
+    // A field of the format, kept beside the keys as it was read: a selector made by hand may tell another number.
     /// The number of keys.
     pub nkeys: u8,
     /// The mask of the word that holds the variable offset.

@@ -20,6 +20,7 @@ impl Page {
         Fault::new(cause, self.used, self.level.layer())
     }
 
+    // That the memory is the page's stands on `nest`, `seal` and `append`: memory is lent to each call, and a ghost field beside a `&mut` is not covered by the checker.
     /// Writes a head with length 0 behind what is used.
     pub(super) fn nest(&mut self, memory: &mut [u8], word: u16, inner: Level) -> Result<(), Fault>
         requires size { length memory.old ≡ self.old.size }

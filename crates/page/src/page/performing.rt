@@ -11,15 +11,13 @@ use crate::call::Call;
 use crate::level::Level;
 use filter::reading::read_action;
 use model::fault::{Cause, Fault};
+use netlink::nla::NLA_F_NESTED;
 use tc::book::Book;
 use tc_filter::action_attribute::TCA_ACT_OPTIONS;
 use tc_filter::cls_u32::TCA_U32_ACT;
 
 /// How many types there are: the two highest bits of a word are flags.
 const TYPES: u16 = 16384;
-
-/// The flag of a nest. Only the options of an action are written with it.
-const NLA_F_NESTED: u16 = 0x8000;
 
 impl Page {
     /// Whether memory of this length can be the page's: any other length is refused by cause 2.
@@ -52,6 +50,7 @@ impl Page {
     {
         self.lent(memory.len())?;
         let at = self.used;
+        // One `match` of level and call: what a call does is decided by both together.
         match (self.level, call) {
             (_, Call::Open(kind)) if kind >= TYPES => Err(self.fault(Cause::TypeTooLarge)),
             (Level::Root, Call::Put(word, value)) if word % TYPES != TCA_U32_ACT => {

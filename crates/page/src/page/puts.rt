@@ -31,6 +31,7 @@ impl Page {
         Ok(())
     }
 
+    // As above with another type and layer; the two parsers answer different values that are both let go, so that one function would take the parser as a closure.
     /// Reads an attribute by itself as an action's attribute, one that is no list of options.
     pub(super) fn reads_as_attribute(&self, word: u16, value: &[u8]) -> Result<(), Fault>
         requires { type_of word ≢ 2 }
