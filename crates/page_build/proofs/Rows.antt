@@ -1,13 +1,21 @@
 -- One row of turns after another. Assumes nothing.
-use Rattle.std.proofs.Common.{◌≡◌, ℕ, List, [], ◌∷◌, ◌++◌, sym, refl, ap, ◌∙◌}
+use Rattle.std.proofs.Common.{◌≡◌, ℕ, List, [], ◌∷◌, ◌++◌, Some, Ok, Result, sym, refl, ap, ◌∙◌, subst}
 use Rattle.model.specs.Numbers.{Bytes}
 use Rattle.model.specs.Book.{Meaning}
 use Rattle.model.specs.Faults.{Read}
 use Rattle.model.specs.Page.{State, open_nest, close}
 use Rattle.model.specs.Runs.{Turn, with_own_memory, after, run}
 use Rattle.model.specs.Walk.{Walked, item}
+use Rattle.model.specs.declared.fault.Fault.{Fault}
+use Rattle.netlink.specs.declared.buffer.NlaBuffer.{NlaBuffer}
+use Rattle.netlink.specs.declared.walker.NlasIterator.{NlasIterator}
+use Rattle.netlink.specs.Walking.{Goes}
 use Rattle.page.specs.Steps.{Outcome, outcome, stepped}
 use Rattle.page_build.specs.Fillings.{TurnsAt, row_turns, nest_turns}
+
+-- a step of the walk that found an attribute
+pub found-one : (s t : NlasIterator) (r : Result NlaBuffer Fault) (a : NlaBuffer) → r ≡ Ok a → Goes s (Some r) t → Goes s (Some (Ok a)) t
+found-one s t r a e g = subst (λ (q : Result NlaBuffer Fault). Goes s (Some q) t) e g
 
 pub run-append : (m : Meaning) (s : State) (ts us : List Turn) → run m s (ts ++ us) ≡ run m (run m s ts) us
 run-append m s [] us = refl

@@ -1,9 +1,8 @@
 use Rattle.std.proofs.Common.{◌∙◌}
 use Rattle.model.specs.Page.{state}
 use Rattle.netlink.specs.Walking.{ahead}
-use Rattle.filter.proofs.Rows.{found-one}
 use Rattle.page.specs.Pages.{as_page}
-use Rattle.page_build.proofs.Rows.{row_more}
+use Rattle.page_build.proofs.Rows.{found-one, row_more}
 use Rattle.page_build.proofs.filler.fill_each.Goals as goal
 
 pub loop-nla-preserved : goal.loop-nla-preserved
