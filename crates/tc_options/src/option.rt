@@ -6,6 +6,7 @@ ghost use Rattle.tc_options.specs.Options.{option_of, option_word, option_payloa
 use crate::mirror::TcActionMirrorOption;
 use crate::nat::TcActionNatOption;
 use crate::tunnel_key::TcActionTunnelKeyOption;
+use crate::{mirror, nat, tunnel_key};
 use netlink::buffer::NlaBuffer;
 use netlink::default_nla::DefaultNla;
 use netlink::nla::Nla;
@@ -27,12 +28,12 @@ impl<'a> TcActionOption<'a> {
     pub fn parse(kind: &[u8], buf: &NlaBuffer<'a>) -> Result<TcActionOption<'a>, DecodeError>
         ensures { decoded result ≡ option_of kind.now buf.now }
     {
-        // A `match` on the text leaves goals open that `==` does not.
-        if kind == b"mirred".as_slice() {
+        // No `match` on byte strings: the checker takes one apart byte by byte, and three goals of some twenty cases stay open.
+        if kind == mirror::KIND {
             Ok(TcActionOption::Mirror(TcActionMirrorOption::parse(buf)?))
-        } else if kind == b"nat".as_slice() {
+        } else if kind == nat::KIND {
             Ok(TcActionOption::Nat(TcActionNatOption::parse(buf)?))
-        } else if kind == b"tunnel_key".as_slice() {
+        } else if kind == tunnel_key::KIND {
             Ok(TcActionOption::TunnelKey(TcActionTunnelKeyOption::parse(buf)?))
         } else {
             Ok(TcActionOption::Other(DefaultNla::from(*buf)))
