@@ -1,6 +1,5 @@
 // What is wrong with a payload, before it is known where the payload stands.
 ghost use Rattle.std.specs.Prelude.{◌≡◌, ℕ, Result};
-ghost use Rattle.model.specs.declared.fault.Cause.TheVariants.{WrongLength, TooShort};
 ghost use Rattle.model.specs.declared.fault.Layer.{Layer};
 ghost use Rattle.model.specs.declared.fault.Fault.{Fault};
 ghost use Rattle.payload.specs.Errors.{placed};
@@ -16,25 +15,11 @@ pub struct DecodeError {
 }
 
 impl DecodeError {
-    /// A payload has not the exact length wanted.
-    pub fn wrong_length(need: usize) -> DecodeError
-        ensures { result ≡ record { cause = WrongLength; need = need } }
+    /// What is wrong, and the payload length wanted, or 0.
+    pub fn new(cause: Cause, need: usize) -> DecodeError
+        ensures { result ≡ record { cause = cause; need = need } }
     {
-        DecodeError {
-            cause: Cause::WrongLength,
-            need,
-        }
-    }
-
-    // Beside `wrong_length` and not one with it: a caller names what is wrong by a word, and the cause is the whole difference.
-    /// A payload is shorter than what has to stand in it.
-    pub fn too_short(need: usize) -> DecodeError
-        ensures { result ≡ record { cause = TooShort; need = need } }
-    {
-        DecodeError {
-            cause: Cause::TooShort,
-            need,
-        }
+        DecodeError { cause, need }
     }
 }
 

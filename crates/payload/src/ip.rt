@@ -5,6 +5,7 @@ ghost use Rattle.payload.specs.Errors.{decoded};
 ghost use Rattle.payload.specs.Payloads.{exactly, address, address_part};
 
 use crate::error::DecodeError;
+use model::fault::Cause;
 use std::fmt;
 
 // Not `std::net::Ipv4Addr`: contracts above name the octets, and std's `From<u32>` leaves no body of ours to promise their order.
@@ -45,7 +46,7 @@ pub fn parse_ipv4_addr(raw: &[u8]) -> Result<Ipv4Addr, DecodeError>
 {
     match raw.as_array::<4>() {
         Some(octets) => Ok(Ipv4Addr { octets: *octets }),
-        None => Err(DecodeError::wrong_length(4)),
+        None => Err(DecodeError::new(Cause::WrongLength, 4)),
     }
 }
 
@@ -56,6 +57,6 @@ pub fn parse_ipv6_addr<'a>(raw: &'a [u8]) -> Result<Ipv6Addr<'a>, DecodeError>
     if raw.len() == 16 {
         Ok(Ipv6Addr { octets: raw })
     } else {
-        Err(DecodeError::wrong_length(16))
+        Err(DecodeError::new(Cause::WrongLength, 16))
     }
 }

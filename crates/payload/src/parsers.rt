@@ -5,6 +5,7 @@ ghost use Rattle.payload.specs.Payloads.{exactly};
 
 use crate::error::DecodeError;
 use crate::number::Number;
+use model::fault::Cause;
 
 /// A number from a payload of just its `N` bytes, as `parse::<u16, 2>(payload)`.
 pub fn parse<T: Number<N>, const N: usize>(payload: &[u8]) -> Result<T, DecodeError>
@@ -12,6 +13,6 @@ pub fn parse<T: Number<N>, const N: usize>(payload: &[u8]) -> Result<T, DecodeEr
 {
     match payload.as_array::<N>() {
         Some(bytes) => Ok(T::from_bytes(*bytes)),
-        None => Err(DecodeError::wrong_length(N)),
+        None => Err(DecodeError::new(Cause::WrongLength, N)),
     }
 }

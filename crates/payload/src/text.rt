@@ -132,9 +132,6 @@ pub fn parse_string<'a>(payload: &'a [u8]) -> Result<&'a str, DecodeError>
     if is_utf8(text) {
         Ok(unsafe { from_utf8_unchecked(text) })
     } else {
-        Err(DecodeError {
-            cause: Cause::KindNotUtf8,
-            need: 0,
-        })
+        Err(DecodeError::new(Cause::KindNotUtf8, 0))
     }
 }

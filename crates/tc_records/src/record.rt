@@ -42,7 +42,7 @@ pub fn parse_record<R: Record>(payload: &[u8]) -> Result<R, DecodeError>
 {
     match R::read(payload) {
         Some(record) => Ok(record),
-        None => Err(DecodeError::too_short(R::size())),
+        None => Err(DecodeError::new(Cause::TooShort, R::size())),
     }
 }
 

@@ -48,9 +48,11 @@ impl<'a> TcU32Selector<'a> {
         ensures written { IfOk result (λ s. selector_form s ≡ take 3 payload.now ++ (0 ∷ part 4 (wanted payload.now - 4) payload.now)) }
         ensures form { IfOk result (λ s. selector_form s ≡ encode (as_selector s)) }
     {
-        let head = Self::head(payload).ok_or(DecodeError::too_short(16))?;
+        let head = Self::head(payload).ok_or(DecodeError::new(Cause::TooShort, 16))?;
         let end = 16 + 16 * head.nkeys as usize;
-        let keys = payload.get(16..end).ok_or(DecodeError::too_short(end))?;
+        let keys = payload
+            .get(16..end)
+            .ok_or(DecodeError::new(Cause::TooShort, end))?;
         Ok(TcU32Selector { keys, ..head })
     }
 
