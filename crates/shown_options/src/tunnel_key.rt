@@ -1,6 +1,7 @@
 // The options of a tunnel key action.
 use shown::address::Groups;
 use shown::attribute::AsItStands;
+use shown::named::Named;
 use shown::record::{Head, Times};
 use std::fmt;
 use std::fmt::Display;
@@ -16,17 +17,6 @@ impl fmt::Display for TunnelKey {
         let action = self.0.t_action;
         let head = Head(self.0.generic);
         write!(f, "tunnel key action {action}, {head}")
-    }
-}
-
-/// One end of a tunnel: its name, and its address.
-#[derive(Clone, Copy)]
-struct End<'a, A>(&'a str, A);
-
-impl<'a, A: fmt::Display> fmt::Display for End<'a, A> {
-    fn fmt<W: fmt::Write>(&self, f: &mut fmt::Formatter<W>) -> fmt::Result {
-        let End(end, address) = self;
-        write!(f, "{end} {address}")
     }
 }
 
@@ -48,12 +38,13 @@ impl<'a> fmt::Display for TunnelKeyOption<'a> {
         match self.0 {
             TcActionTunnelKeyOption::Tm(times) => Times(times).fmt(f),
             TcActionTunnelKeyOption::Parms(parameters) => TunnelKey(parameters).fmt(f),
-            TcActionTunnelKeyOption::EncIpv4Src(address) => End("source", address).fmt(f),
-            TcActionTunnelKeyOption::EncIpv4Dst(address) => End("destination", address).fmt(f),
-            TcActionTunnelKeyOption::EncIpv6Src(address) => End("source", Groups(address)).fmt(f),
-            TcActionTunnelKeyOption::EncIpv6Dst(address) => End("destination", Groups(address)).fmt(
-                f,
-            ),
+            TcActionTunnelKeyOption::EncIpv4Src(address) => Named("source", address).fmt(f),
+            TcActionTunnelKeyOption::EncIpv4Dst(address) => Named("destination", address).fmt(f),
+            TcActionTunnelKeyOption::EncIpv6Src(address) => Named("source", Groups(address)).fmt(f),
+            TcActionTunnelKeyOption::EncIpv6Dst(address) => Named(
+                "destination",
+                Groups(address),
+            ).fmt(f),
             TcActionTunnelKeyOption::EncKeyId(id) => write!(f, "key id {id}"),
             TcActionTunnelKeyOption::EncDstPort(port) => write!(f, "destination port {port}"),
             TcActionTunnelKeyOption::NoCsum(without) => f.write_str(checksum_words(without)),

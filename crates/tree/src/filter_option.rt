@@ -5,6 +5,7 @@ use cursors::actions::Actions;
 use netlink::buffer::NlaBuffer;
 use shown::attribute::AsItStands;
 use shown::bytes::Bytes;
+use shown::named::Named;
 use std::fmt;
 use std::fmt::Display;
 use tc_filter::cls_u32::TcFilterU32Option;
@@ -34,17 +35,6 @@ impl fmt::Display for Hex {
     }
 }
 
-/// A name and its value.
-#[derive(Clone, Copy)]
-struct Named<'a, V>(&'a str, V);
-
-impl<'a, V: fmt::Display> fmt::Display for Named<'a, V> {
-    fn fmt<W: fmt::Write>(&self, f: &mut fmt::Formatter<W>) -> fmt::Result {
-        let Named(name, value) = self;
-        writeln!(f, "{name} {value}")
-    }
-}
-
 /// An option of a filter.
 #[derive(Clone, Copy)]
 pub struct FilterOption<'a>(pub TcFilterU32Option<'a>);
@@ -52,17 +42,17 @@ pub struct FilterOption<'a>(pub TcFilterU32Option<'a>);
 impl<'a> fmt::Display for FilterOption<'a> {
     fn fmt<W: fmt::Write>(&self, f: &mut fmt::Formatter<W>) -> fmt::Result {
         match self.0 {
-            TcFilterU32Option::ClassId(class) => Named("class", class).fmt(f),
-            TcFilterU32Option::Hash(number) => Named("hash", Hex(number)).fmt(f),
-            TcFilterU32Option::Link(number) => Named("link", Hex(number)).fmt(f),
-            TcFilterU32Option::Divisor(number) => Named("divisor", number).fmt(f),
+            TcFilterU32Option::ClassId(class) => writeln!(f, "{}", Named("class", class)),
+            TcFilterU32Option::Hash(number) => writeln!(f, "{}", Named("hash", Hex(number))),
+            TcFilterU32Option::Link(number) => writeln!(f, "{}", Named("link", Hex(number))),
+            TcFilterU32Option::Divisor(number) => writeln!(f, "{}", Named("divisor", number)),
             TcFilterU32Option::Selector(selector) => Selector(selector).fmt(f),
-            TcFilterU32Option::Police(value) => Named("police", Bytes(value)).fmt(f),
+            TcFilterU32Option::Police(value) => writeln!(f, "{}", Named("police", Bytes(value))),
             TcFilterU32Option::Action(actions) => ActionList(actions).fmt(f),
-            TcFilterU32Option::Indev(value) => Named("indev", Bytes(value)).fmt(f),
-            TcFilterU32Option::Pnct(value) => Named("pcnt", Bytes(value)).fmt(f),
-            TcFilterU32Option::Mark(value) => Named("mark", Bytes(value)).fmt(f),
-            TcFilterU32Option::Flags(number) => Named("flags", Hex(number)).fmt(f),
+            TcFilterU32Option::Indev(value) => writeln!(f, "{}", Named("indev", Bytes(value))),
+            TcFilterU32Option::Pnct(value) => writeln!(f, "{}", Named("pcnt", Bytes(value))),
+            TcFilterU32Option::Mark(value) => writeln!(f, "{}", Named("mark", Bytes(value))),
+            TcFilterU32Option::Flags(number) => writeln!(f, "{}", Named("flags", Hex(number))),
             TcFilterU32Option::Other(attribute) => {
                 let attribute = AsItStands(attribute);
                 writeln!(f, "{attribute}")
