@@ -201,7 +201,7 @@ for f in files:
 each(6, "a sort, a binary search, an index kept for an element", r"sort|binary_search|swap_remove")
 
 # ── 7: a switch on which step to run, tables of functions ──
-each(7, "a match on a family, a call or a command that only chooses what to call", r"^\s*match (named\(kind\)|call|\(command, files\)|\(self\.level, call\)|inside\(nla\)\?)")
+each(7, "a match on a family, a call or a command that only chooses what to call", r"^\s*match (named\(kind\)|call|\(command, files\)|\(self\.level, call\)|inside\(&?\w+(\.nla)?\)\?)")
 each(7, "a function pointer", r"\bfn\(")
 
 titles = ["", "own Option or Result, flags with values, numbers for kinds or refusals", "twins", "loops that count by hand", "equality, order, copying, conversion, printing by hand",

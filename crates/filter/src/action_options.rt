@@ -10,6 +10,7 @@ use model::fault::{Fault, Layer};
 use payload::error::ErrorContext;
 use tc::book::Book;
 
+// The layers of a filter are types of their own, though two and two hold the same: each is another implementation of `Form`.
 /// The options of an action of one kind.
 #[derive_where(Clone, Copy)]
 pub(crate) struct ActionOptions<'a, 'k, B> {

@@ -80,11 +80,10 @@ impl<'a> Iterator for Row<'a> {
     ghost remaining = { λ s. at_most (length s.walk.rest.now) };
 
     fn next(&mut self) -> Option<Result<Part<'a>, Fault>> {
+        // No `map` of a `map`: that what was found lies inside is known here, and not in a closure.
         match self.walk.next() {
-            Some(found) => match found {
-                Ok(nla) => Some(Ok(Part { nla })),
-                Err(fault) => Some(Err(fault)),
-            },
+            Some(Ok(nla)) => Some(Ok(Part { nla })),
+            Some(Err(fault)) => Some(Err(fault)),
             None => None,
         }
     }

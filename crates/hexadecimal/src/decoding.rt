@@ -16,6 +16,7 @@ pub enum HexError {
     NoMemory,
 }
 
+// By hand, since a clause says which case it is.
 impl From<AllocError> for HexError {
     ghost from_gives = { λ _ r. r ≡ NoMemory };
 

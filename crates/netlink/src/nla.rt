@@ -12,7 +12,10 @@ use model::fault::Cause;
 pub const LONGEST_PAYLOAD: usize = 65531;
 
 /// The padding behind a payload, of which so many zeros are written as are needed.
-pub const ZEROS: [u8; 3] = [0, 0, 0];
+const ZEROS: [u8; 3] = [0, 0, 0];
+
+/// How many types there are: the two highest bits of a word are flags.
+pub const TYPES: u16 = 0x4000;
 
 /// The flag of an attribute that holds attributes. It stands in the word beside the type.
 pub const NLA_F_NESTED: u16 = 0x8000;

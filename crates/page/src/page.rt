@@ -8,7 +8,7 @@ use crate::level::Level;
 /// Its memory is handed to each call; the page's bytes are those below the used length.
 #[derive(Drop)]
 pub struct Page {
-    // Lengths of memory that the caller holds and lends to each call.
+    // Lengths of memory that the caller holds and lends to each call, with the book; so both stand beside the page in every call.
     size: usize,
     used: usize,
     level: Level,

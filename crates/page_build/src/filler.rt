@@ -11,6 +11,7 @@ use netlink::walker::NlasIterator;
 use page::page::Page;
 use tc::book::Book;
 
+// Book, page and memory go together as a page's calls take them. A struct would hold two `&mut`, with a fact about them that the checker does not cover.
 /// How the attributes of one layer are put on a page.
 pub(crate) trait Filler {
     /// The turns for an attribute, by its place, word and payload.

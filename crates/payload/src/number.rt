@@ -2,6 +2,7 @@
 ghost use Rattle.std.specs.Prelude.{◌≡◌, ℕ, ◌+◌, ◌≤◌, List, length, Some, None, if◌then◌else◌, nat_le};
 ghost use Rattle.model.specs.Numbers.{part};
 
+// An impl stands for each type: `from_le_bytes` and its like are methods of each type, and of no trait.
 /// A number that stands in `N` bytes.
 pub trait Number<const N: usize>: Sized {
     /// What the `N` bytes from a place mean.

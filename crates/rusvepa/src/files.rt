@@ -20,6 +20,7 @@ pub(crate) enum Trouble {
     Refused(#[from] Fault),
 }
 
+// By hand here and below: what they become is the case of another error.
 impl From<AllocError> for Trouble {
     fn from(error: AllocError) -> Trouble {
         Trouble::Unread(error.into())

@@ -18,6 +18,7 @@ use tool::Tool;
 impl<'r, W: Write> Tool<'r, W> {
     /// Does what a command says with its files.
     fn obey(&mut self, command: Command, files: &[String]) -> io::Result<()> {
+        // The one place where a command is matched with what it does.
         match (command, files) {
             (Command::Read, files) => self.read_files(files),
             (Command::Write, [file]) => self.write_file(file.as_str()),

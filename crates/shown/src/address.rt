@@ -10,6 +10,7 @@ impl<'a> fmt::Display for Groups<'a> {
     fn fmt<W: fmt::Write>(&self, f: &mut fmt::Formatter<W>) -> fmt::Result {
         for (i, pair) in self.0.octets.chunks(2).enumerate() {
             if i > 0 {
+                // No `join` writes into a formatter.
                 f.write_str(":")?;
             }
             if let [high, low] = pair {

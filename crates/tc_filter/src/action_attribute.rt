@@ -1,9 +1,8 @@
 // The attributes of an action.
 ghost use Rattle.std.specs.Prelude.{◌≡◌, ℕ, List, IfOk};
-ghost use Rattle.model.specs.Attributes.{type_of};
 ghost use Rattle.model.specs.Book.{Meaning};
 ghost use Rattle.model.specs.Reading.{read_attribute};
-ghost use Rattle.tc_filter.specs.ActionAttributes.{attribute_heard, attribute_by, attribute_reads, PartOf};
+ghost use Rattle.tc_filter.specs.ActionAttributes.{attribute_reads, PartOf};
 
 use netlink::buffer::NlaBuffer;
 use netlink::default_nla::DefaultNla;

@@ -2,8 +2,7 @@
 ghost use Rattle.std.specs.Prelude.{◌≡◌, IfOk};
 ghost use Rattle.model.specs.Book.{Meaning};
 ghost use Rattle.model.specs.Reading.{read_option};
-ghost use Rattle.tc_filter.specs.FilterOptions.{option_heard, option_by, option_reads, PartOf};
-ghost use Rattle.model.specs.Attributes.{type_of};
+ghost use Rattle.tc_filter.specs.FilterOptions.{option_reads, PartOf};
 
 use netlink::buffer::NlaBuffer;
 use netlink::default_nla::DefaultNla;

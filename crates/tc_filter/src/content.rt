@@ -13,6 +13,7 @@ use crate::leaf::Leaf;
 use netlink::buffer::NlaBuffer;
 use netlink::default_nla::DefaultNla;
 
+// Whoever reads, measures or writes matches on the two cases: they are what there is, and no step to choose.
 /// What an option or an attribute holds.
 #[derive(Clone, Copy)]
 pub enum Content<'a> {

@@ -41,6 +41,7 @@ impl<'a> TcActionOption<'a> {
     }
 }
 
+// By cases and no `dyn`: the kinds are known, and a contract names the case.
 impl<'a> Nla for TcActionOption<'a> {
     ghost word = { option_word };
 

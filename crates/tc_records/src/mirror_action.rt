@@ -18,6 +18,7 @@ pub enum TcMirrorActionType {
     Other(i32),
 }
 
+// Two tables and no discriminants: a number without a name is a case that carries it.
 /// The name of a number.
 impl From<i32> for TcMirrorActionType {
     ghost from_gives = { λ z a. a ≡ of_mirror_action (mirror_action z) };

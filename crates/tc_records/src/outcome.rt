@@ -30,6 +30,7 @@ pub enum TcActionType {
     Other(i32),
 }
 
+// Two tables and no discriminants: a number without a name is a case that carries it.
 /// The name of a number.
 impl From<i32> for TcActionType {
     ghost from_gives = { λ z o. o ≡ of_outcome (outcome z) };

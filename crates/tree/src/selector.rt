@@ -52,8 +52,8 @@ impl<'a> Selector<'a> {
 impl<'a> fmt::Display for Selector<'a> {
     fn fmt<W: fmt::Write>(&self, f: &mut fmt::Formatter<W>) -> fmt::Result {
         self.write_numbers(f)?;
-        let keys = self.0.keys.chunks_exact(16);
-        for key in keys.filter_map(TcU32Key::read) {
+        let Selector(selector) = *self;
+        for key in (0..usize::from(selector.nkeys)).filter_map(|i| selector.key(i)) {
             Match(key).fmt(f)?;
         }
         Ok(())

@@ -39,7 +39,8 @@ impl<'a> Selector<'a> {
 impl<'a> fmt::Display for Selector<'a> {
     fn fmt<W: fmt::Write>(&self, f: &mut fmt::Formatter<W>) -> fmt::Result {
         self.write_numbers(f)?;
-        let keys = self.0.keys.chunks_exact(16).filter_map(TcU32Key::read);
+        let Selector(selector) = *self;
+        let keys = (0..usize::from(selector.nkeys)).filter_map(|i| selector.key(i));
         for (i, key) in keys.enumerate() {
             let TcU32Key {
                 mask,

@@ -31,6 +31,7 @@ impl<'a> fmt::Display for Spaced<'a> {
     fn fmt<W: fmt::Write>(&self, f: &mut fmt::Formatter<W>) -> fmt::Result {
         for (i, byte) in self.0.iter().enumerate() {
             if i > 0 {
+                // No `join` writes into a formatter.
                 f.write_str(" ")?;
             }
             write!(f, "{byte:02X}")?;
@@ -49,15 +50,16 @@ fn indent(layer: Layer) -> &'static str {
     }
 }
 
-/// What a payload shows as: a kind by its text too, and one that holds attributes by its length alone.
+/// An attribute's line.
 #[derive(Clone, Copy)]
-struct Payload<'a> {
+struct Line<'a> {
     nla: NlaBuffer<'a>,
     layer: Layer,
 }
 
-impl<'a> fmt::Display for Payload<'a> {
-    fn fmt<W: fmt::Write>(&self, f: &mut fmt::Formatter<W>) -> fmt::Result {
+impl<'a> Line<'a> {
+    /// What the payload shows as: a kind by its text too, and one that holds attributes by its length alone.
+    fn write_payload<W: fmt::Write>(&self, f: &mut fmt::Formatter<W>) -> fmt::Result {
         let kind = self.nla.kind();
         let value = self.nla.value;
         if inside(self.layer, kind).is_some() {
@@ -75,13 +77,6 @@ impl<'a> fmt::Display for Payload<'a> {
     }
 }
 
-/// An attribute's line.
-#[derive(Clone, Copy)]
-struct Line<'a> {
-    nla: NlaBuffer<'a>,
-    layer: Layer,
-}
-
 impl<'a> fmt::Display for Line<'a> {
     fn fmt<W: fmt::Write>(&self, f: &mut fmt::Formatter<W>) -> fmt::Result {
         let Line { nla, layer } = *self;
@@ -89,11 +84,9 @@ impl<'a> fmt::Display for Line<'a> {
         let place = nla.place;
         let word = nla.word;
         let kind = nla.kind();
-        let payload = Payload { nla, layer };
-        writeln!(
-            f,
-            "{space}place {place}, word {word:04X}, type {kind}: {payload}"
-        )
+        write!(f, "{space}place {place}, word {word:04X}, type {kind}: ")?;
+        self.write_payload(f)?;
+        f.write_str("\n")
     }
 }
 

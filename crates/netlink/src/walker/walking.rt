@@ -8,6 +8,7 @@ ghost use Rattle.std.specs.Iterator.{at_most};
 
 use super::NlasIterator;
 use crate::buffer::NlaBuffer;
+use crate::nla::TYPES;
 use model::fault::{Cause, Fault, Layer};
 
 /// The bytes of an attribute's head.
@@ -103,7 +104,7 @@ impl<'a> NlaBuffer<'a> {
     pub fn kind(&self) -> u16
         ensures { result ≡ type_of self.now.word }
     {
-        self.word % 0x4000
+        self.word % TYPES
     }
 
     /// A walk over the attributes in the payload, which begins 4 bytes behind the head. (A place so high that the payload would end beyond the largest number is drawn back to end there.)

@@ -36,6 +36,7 @@ impl Page {
         Ok(())
     }
 
+    // `seal` and `cut` answer as every call does, though nothing is refused here: each is the whole arm of a call.
     /// Writes the length of the nest whose head is at `head`, the innermost.
     pub(super) fn seal(&mut self, memory: &mut [u8], head: usize, rest: Level) -> Result<(), Fault>
         requires size { length memory.old ≡ self.old.size }

@@ -11,13 +11,10 @@ use crate::call::Call;
 use crate::level::Level;
 use filter::reading::read_action;
 use model::fault::{Cause, Fault};
-use netlink::nla::NLA_F_NESTED;
+use netlink::nla::{NLA_F_NESTED, TYPES};
 use tc::book::Book;
 use tc_filter::action_attribute::TCA_ACT_OPTIONS;
 use tc_filter::cls_u32::TCA_U32_ACT;
-
-/// How many types there are: the two highest bits of a word are flags.
-const TYPES: u16 = 16384;
 
 impl Page {
     /// Whether memory of this length can be the page's: any other length is refused by cause 2.
@@ -30,6 +27,7 @@ impl Page {
         Ok(())
     }
 
+    // That the memory is the page's: see `nest`.
     /// Reads the action whose head is at `head` with the book, up to the used length.
     fn action_reads<B: Book>(&self, book: &B, memory: &[u8], head: usize) -> Result<(), Fault>
         requires { (length memory.now ≡ self.now.size) × (head + 4 ≤ self.now.used) }
