@@ -1,4 +1,4 @@
-// Readers of an attribute's payload: integers, addresses and text.
+// What stands in the payload of an attribute: numbers, addresses and text.
 #![tactic(auto)]
 
 pub mod error;
