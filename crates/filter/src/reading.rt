@@ -43,6 +43,7 @@ pub(crate) fn tally<B: Book>(book: &B, filter: &Filter<'_>) -> Result<Tally, Fau
     read_each(&Options { book }, filter.row())
 }
 
+// Book and filter stand beside one another here and in writing out: a struct of the two would be made for one call and taken apart in it.
 /// Reads a filter with a book, and answers its counts, or its first fault.
 pub fn read<B: Book>(book: &B, filter: &[u8]) -> Result<Counts, Fault>
     ensures { counts_heard result ≡ read_counts (B.Book.meaning book.now) filter.now }

@@ -16,6 +16,7 @@ use tc_records::selector::TcU32Selector;
 struct Selector<'a>(TcU32Selector<'a>);
 
 impl<'a> Selector<'a> {
+    // The trees show the same fields in other words.
     /// A line for the selector's own fields.
     fn write_numbers<W: fmt::Write>(&self, f: &mut fmt::Formatter<W>) -> fmt::Result {
         let TcU32Selector {

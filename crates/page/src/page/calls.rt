@@ -62,6 +62,7 @@ impl Page {
         self.perform(book, memory, Call::Open(kind))
     }
 
+    // Each call has a method that names it; what it does is decided where it is performed.
     /// Ends the innermost nest and keeps it: its length is written. An action is read with the book first.
     pub fn close<B: Book>(&mut self, book: &B, memory: &mut [u8]) -> Result<(), Fault>
         ensures { outcome (answered result) (state (as_page self.new) memory.new) ≡ stepped (B.Book.meaning book.now) (state (as_page self.old) memory.old) close }
