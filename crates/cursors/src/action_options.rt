@@ -22,8 +22,8 @@ pub struct JudgedOption<'a> {
     pub judged: Judged,
 }
 
-/// A cursor over the options of an action: each as its book judges it under the action's kind, or its fault.
 // It is no `Parts`: a part is read from its attribute alone, and this one by a book and a kind, which the cursor holds.
+/// A cursor over the options of an action: each as its book judges it under the action's kind, or its fault.
 #[derive_where(Clone, Copy)]
 pub struct ActionOptions<'a, 'b, 'k, B> {
     walk: NlasIterator<'a>,

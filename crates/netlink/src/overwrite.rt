@@ -2,7 +2,7 @@
 ghost use Rattle.std.specs.Prelude.{◌≡◌, ◌+◌, length, if◌then◌else◌, ◌==◌, nat_eq, nat_le};
 ghost use Rattle.netlink.specs.Emission.{over_if_it_fits};
 
-// A `bool` here and below: there is one refusal, and an error type of one value would say no more.
+// A `bool` here and below: there is one refusal, and an error type of one value would say no more. Whoever knows that the part goes in lets the answer go.
 /// Writes `part` over the buffer from `at` on. Where it does not go in, the answer is `false` and the buffer stays as it was.
 pub fn overwrite(buffer: &mut [u8], at: usize, part: &[u8]) -> bool
     ensures value { result ≡ nat_le (at + length part.now) (length buffer.old) }

@@ -16,8 +16,8 @@ use crate::turn::Turn;
 use model::fault::Fault;
 use tc::book::Book;
 
-/// Makes a call by the page's method for it.
 // Not `perform` itself: the checker gives the range of an argument and not of a case's field, so that a call is in range is learned from the methods.
+/// Makes a call by the page's method for it.
 fn make<B: Book>(page: &mut Page, book: &B, memory: &mut [u8], call: Call<'_>) -> Result<(), Fault>
     ensures outcome { outcome (answered result) (state (as_page page.new) memory.new) ≡ stepped (B.Book.meaning book.now) (state (as_page page.old) memory.old) (meant call.entry) }
     ensures fair { InRange (meant call.entry) }

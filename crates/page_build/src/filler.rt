@@ -11,7 +11,7 @@ use netlink::walker::NlasIterator;
 use page::page::Page;
 use tc::book::Book;
 
-// Book, page and memory go together as a page's calls take them. A struct would hold two `&mut`, with a fact about them that the checker does not cover.
+// Book, page and memory go together, one by one as a page's calls take them: a struct of the three would be taken apart for each call.
 /// How the attributes of one layer are put on a page.
 pub(crate) trait Filler {
     /// The turns for an attribute, by its place, word and payload.

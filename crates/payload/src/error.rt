@@ -35,15 +35,12 @@ impl<T> ErrorContext<T> for Result<T, DecodeError> {
     ghost outcome = { placed };
 
     fn context(self, place: usize, layer: Layer) -> Result<T, Fault> {
-        match self {
-            Ok(value) => Ok(value),
-            Err(error) => Err(Fault {
-                cause: error.cause,
-                place,
-                layer,
-                need: error.need,
-                number: 0,
-            }),
-        }
+        self.map_err(|error| Fault {
+            cause: error.cause,
+            place,
+            layer,
+            need: error.need,
+            number: 0,
+        })
     }
 }

@@ -8,7 +8,7 @@ use crate::error::DecodeError;
 use model::fault::Cause;
 use std::fmt;
 
-// Not `std::net::Ipv4Addr`: contracts above name the octets, and std's `From<u32>` leaves no body of ours to promise their order.
+// Not `std::net::Ipv4Addr`: that a number's highest byte comes first is promised here, and an edit of it is refused.
 /// An IPv4 address, by its four bytes as they stand in the payload.
 #[derive(Clone, Copy)]
 pub struct Ipv4Addr {
@@ -33,7 +33,7 @@ impl fmt::Display for Ipv4Addr {
     }
 }
 
-// A part of the payload and no array, as every raw part of a filter is.
+// A slice and no `&[u8; 16]`: it is this part of the payload, and `as_array` promises the same bytes only.
 /// An IPv6 address: the 16 bytes of the payload.
 #[derive(Clone, Copy)]
 pub struct Ipv6Addr<'a> {

@@ -34,26 +34,16 @@ fn length_by(first: u8) -> u8
     LENGTHS[(first / 16) as usize][(first % 16) as usize]
 }
 
-/// The lowest second byte of a character.
-fn lowest_second(first: u8) -> u8
-    ensures { result ≡ low first }
+/// The lowest and the highest second byte of a character.
+fn second_range(first: u8) -> (u8, u8)
+    ensures { result ≡ (low first, high first) }
 {
     match first {
-        0xE0 => 0xA0,
-        0xF0 => 0x90,
-        _ => 0x80,
-    }
-}
-
-// Two tables of one shape: as one function with a flag they would be no plainer.
-/// The highest second byte of a character.
-fn highest_second(first: u8) -> u8
-    ensures { result ≡ high first }
-{
-    match first {
-        0xED => 0x9F,
-        0xF4 => 0x8F,
-        _ => 0xBF,
+        0xE0 => (0xA0, 0xBF),
+        0xED => (0x80, 0x9F),
+        0xF0 => (0x90, 0xBF),
+        0xF4 => (0x80, 0x8F),
+        _ => (0x80, 0xBF),
     }
 }
 
@@ -83,8 +73,7 @@ impl Partway {
     {
         if self.left == 0 {
             let left = length_by(byte).checked_sub(1)?;
-            let from = lowest_second(byte);
-            let to = highest_second(byte);
+            let (from, to) = second_range(byte);
             return Some(Partway { left, from, to });
         }
         if byte < self.from || self.to < byte {

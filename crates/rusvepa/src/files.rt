@@ -20,7 +20,7 @@ pub(crate) enum Trouble {
     Refused(#[from] Fault),
 }
 
-// By hand here and below: what they become is the case of another error.
+// By hand here and below: memory that is not found is told as a file that is not read.
 impl From<AllocError> for Trouble {
     fn from(error: AllocError) -> Trouble {
         Trouble::Unread(error.into())

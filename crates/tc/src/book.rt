@@ -41,16 +41,13 @@ impl ErrorContext<Judged> for Result<Judged, Refusal> {
     ghost outcome = { refusal_placed };
 
     fn context(self, place: usize, layer: Layer) -> Result<Judged, Fault> {
-        match self {
-            Ok(judged) => Ok(judged),
-            Err(refusal) => Err(Fault {
-                cause: Cause::RefusedByBook,
-                place,
-                layer,
-                need: refusal.need,
-                number: refusal.number,
-            }),
-        }
+        self.map_err(|refusal| Fault {
+            cause: Cause::RefusedByBook,
+            place,
+            layer,
+            need: refusal.need,
+            number: refusal.number,
+        })
     }
 }
 
@@ -68,7 +65,7 @@ pub trait Book {
     fn judge(&self, kind: &[u8], word: u16, payload: &[u8]) -> Result<Judged, Refusal>
         ensures { judged result ≡ judgement (meaning self.now kind.now word payload.now) };
 
-    // A `bool`, since a book's second call answers yes or no. Kind, word and payload are what a book is asked with; as one struct every book would take it apart again.
+    // A `bool`, since a book's second call answers yes or no. Kind, word and payload are the question by which a book is defined.
     /// Writes the payload that is written of the option into memory of just its length, whole. Memory of another length, or a refused
     /// option, gets a `false`, and the memory stays as it was.
     fn write(&self, kind: &[u8], word: u16, payload: &[u8], memory: &mut [u8]) -> bool

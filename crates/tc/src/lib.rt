@@ -1,4 +1,4 @@
-// Traffic control filters: so far the books, which judge action options.
+// The books, which judge action options.
 #![tactic(auto)]
 
 pub mod book;

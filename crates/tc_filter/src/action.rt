@@ -21,8 +21,8 @@ pub struct TcAction<'a> {
     pub attributes: NlaBuffer<'a>,
 }
 
-/// The kind texts that were seen in an action so far.
 // Three states: that there are several may be told only when every text behind them was looked at too.
+/// The kind texts that were seen in an action so far.
 #[derive(Clone, Copy)]
 enum Seen<'a> {
     Nothing,

@@ -25,7 +25,7 @@ pub trait Record: Sized {
     fn read(bytes: &[u8]) -> Option<Self>
         ensures { result ≡ (if nat_lt (length bytes.now) width then None else Some (decode bytes.now)) };
 
-    // A `bool`: there is one refusal, and an error type of one value would say no more. Each record writes the array of its own size, which a trait has no name for.
+    // A `bool`: there is one refusal, and an error type of one value would say no more. Each record writes the array of its own size: under a const parameter for it, an impl for an enum over any record is refused (`unconstrained-parameter`).
     /// Writes the record into a buffer of just its size. A buffer of another length gets a `false`, and stays as it was.
     fn write(&self, buffer: &mut [u8]) -> bool
         ensures value { result ≡ (length buffer.old == width) }

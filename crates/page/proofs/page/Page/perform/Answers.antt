@@ -1,4 +1,4 @@
-use Rattle.std.proofs.Common.{◌≡◌, ◌%◌, false, not, eqb, IsErrAnd, Err, Result, refl, ap, ◌∙◌, arith}
+use Rattle.std.proofs.Common.{◌≡◌, ◌%◌, false, not, eqb, IsErrAnd, Err, Result, ap, ◌∙◌}
 use Rattle.std.proofs.lemmas.Bool.{ne_eqb}
 use Rattle.std.proofs.lemmas.Result.{err_from_is_err_and}
 use Rattle.model.specs.Numbers.{Bytes}
@@ -8,9 +8,8 @@ use Rattle.model.specs.declared.fault.Fault.{Fault}
 use Rattle.page.specs.declared.page.Page.{Page}
 use Rattle.page.specs.Pages.{as_page}
 use Rattle.page.specs.Steps.{outcome}
-use Rattle.page.specs.declared.level.Level.TheVariants.{Root, Actions, Action, Options}
-use Rattle.page.specs.declared.call.Call.TheVariants.{Open}
-use Rattle.page.proofs.Decisions.{put_written, put_unread, nest_begun}
+use Rattle.page.specs.declared.level.Level.TheVariants.{Root, Action}
+use Rattle.page.proofs.Decisions.{put_written, put_unread}
 use Rattle.page.proofs.page.Page.perform.Goals as goal
 
 -- what a put that does not read by itself leaves
@@ -39,19 +38,6 @@ returns-in_err-reads_as_attribute-in-Action-Put g c =
     ∙ put_unread m c.args.self.now c.args.memory.now _ c.in_ok-lent.ensures c.args.call (Action a.field-0-0 a.field-1-0) a.is-0 a.word a.value a.is-1 (ap not belongs)
     (numbers f) (c.in_err-reads_as_attribute-in-Action-Put.ensures m)
 
-pub returns-in-Actions-Open : goal.returns-in-Actions-Open
-returns-in-Actions-Open g c =
-    c.nest-in-Actions-Open.ensures
-    ∙ nest_begun (g.B.Book.meaning c.args.book.now) c.args.self.now c.args.memory.now _ c.in_ok-lent.ensures c.args.call (Actions c.in-Actions-Open.a) c.in-Actions-Open.is-0
-    c.in-Actions-Open.tab _ c.in-Actions-Open.is-1 (omega arith) refl c.in-Actions-Open.tab-is
-
-pub returns-in-Action-Open-eq2 : goal.returns-in-Action-Open-eq2
-returns-in-Action-Open-eq2 g c =
-    let two : c.in_default-Open.kind ≡ 2 = omega arith in
-    c.nest-in-Action-Open-eq2.ensures
-    ∙ nest_begun (g.B.Book.meaning c.args.book.now) c.args.self.now c.args.memory.now _ c.in_ok-lent.ensures c.args.call (Action c.in-Action-Open-eq2.a c.in-Action-Open-eq2.b) c.in-Action-Open-eq2.is-0
-    2 32770 (c.in_default-Open.is-1 ∙ ap Open two) (omega arith) refl refl
-
 pub returns-in_ok-reads_as_option-in-Root-Put : goal.returns-in_ok-reads_as_option-in-Root-Put
 returns-in_ok-reads_as_option-in-Root-Put g c =
     let m = g.B.Book.meaning c.args.book.now in
@@ -69,10 +55,3 @@ returns-in_ok-reads_as_attribute-in-Action-Put g c =
     c.append-in-Action-Put.ensures
     ∙ put_written m c.args.self.now c.args.memory.now _ c.in_ok-lent.ensures c.args.call (Action a.field-0-0 a.field-1-0) a.is-0 a.word a.value a.is-1 (ap not belongs)
     (c.in_ok-reads_as_attribute-in-Action-Put.ensures m)
-
-pub returns-in-Options-Put : goal.returns-in-Options-Put
-returns-in-Options-Put g c =
-    let m = g.B.Book.meaning c.args.book.now in
-    let a = c.in-Options-Put in
-    c.append-in-Options-Put.ensures
-    ∙ put_written m c.args.self.now c.args.memory.now _ c.in_ok-lent.ensures c.args.call (Options a.field-0-0 a.field-1-0 a.field-2-0) a.is-0 a.word a.value a.is-1 refl refl
