@@ -1,6 +1,11 @@
 // The calls that build a written form, each as a line.
-use model::fault::Layer;
+ghost use Rattle.std.specs.Prelude.{◌≡◌, ◌≤◌, length, IfOk};
+ghost use Rattle.model.specs.Faults.{answered};
+ghost use Rattle.model.specs.Page.{new_page, only_fault};
+
+use model::fault::{Cause, Fault, Layer};
 use netlink::buffer::NlaBuffer;
+use netlink::nla::LONGEST_PAYLOAD;
 use netlink::walker::NlasIterator;
 use shown::bytes::Bytes;
 use std::fmt;
@@ -10,7 +15,23 @@ use tc_filter::cls_u32::TCA_U32_ACT;
 
 /// The calls that build a filter's written form on a new page of just its length, as the lines of a script; at the end the page is read and told.
 #[derive(Clone, Copy)]
-pub struct Script<'a>(pub &'a [u8]);
+pub struct Script<'a> {
+    written: &'a [u8],
+    ghost short: { length written.now ≤ 65531 },
+}
+
+impl<'a> Script<'a> {
+    /// The script for a written form. One that is too long for a page is refused by cause 1, as the page would be.
+    pub fn of(written: &'a [u8]) -> Result<Script<'a>, Fault>
+        ensures refusal { only_fault (answered result) ≡ only_fault (new_page (length written.now)) }
+        ensures whole { IfOk result (λ s. s.written.now ≡ written.now) }
+    {
+        if written.len() > LONGEST_PAYLOAD {
+            return Err(Fault::new(Cause::TooLong, 0, Layer::FilterOption));
+        }
+        Ok(Script { written })
+    }
+}
 
 /// The call that puts an attribute.
 #[derive(Clone, Copy)]
@@ -62,9 +83,9 @@ fn write_actions<W: fmt::Write>(f: &mut fmt::Formatter<W>, walk: NlasIterator<'_
 
 impl<'a> fmt::Display for Script<'a> {
     fn fmt<W: fmt::Write>(&self, f: &mut fmt::Formatter<W>) -> fmt::Result {
-        let size = self.0.len();
+        let size = self.written.len();
         writeln!(f, "new {size}")?;
-        for option in NlasIterator::new(self.0, Layer::FilterOption).filter_map(Result::ok) {
+        for option in NlasIterator::new(self.written, Layer::FilterOption).filter_map(Result::ok) {
             if option.kind() != TCA_U32_ACT {
                 Put(option).fmt(f)?;
                 continue;
