@@ -1,3 +1,4 @@
+pub mod Wrongs
 pub mod Words
 pub mod Numbers
 pub mod Keywords

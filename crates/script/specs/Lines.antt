@@ -10,6 +10,7 @@ use Rattle.script.specs.declared.line.Line.{Line}
 use Rattle.script.specs.declared.line.Line.TheVariants as line
 use Rattle.script.specs.declared.wrong.Wrong.{Wrong}
 use Rattle.script.specs.declared.wrong.Wrong.TheVariants as wrong
+use Rattle.script.specs.Wrongs.{behind_with}
 use Rattle.script.specs.Words.{trimmed, first_word, behind_word}
 use Rattle.script.specs.Numbers.{number_of, short_of}
 use Rattle.script.specs.Keywords.{keyword_of}
@@ -85,7 +86,7 @@ new_of (Some n) = Ok (made n)
 abbrev pub lent_of : Option ℕ → Result model.Call Wrong → Result Said Wrong
 lent_of None c = Err wrong.With
 lent_of (Some n) (Ok c) = Ok (lent n c)
-lent_of (Some n) (Err e) = Err e
+lent_of (Some n) (Err e) = Err (behind_with e)
 
 abbrev pub called_of : Result model.Call Wrong → Result Said Wrong
 called_of (Ok c) = Ok (called c)

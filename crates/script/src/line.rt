@@ -108,7 +108,10 @@ impl Line {
             },
             Some(Keyword::With) => {
                 let size = number(first_word(more)).ok_or(Wrong::With)?;
-                Ok(Line::With(size, Told::read(heap, behind_word(more))?))
+                match Told::read(heap, behind_word(more)) {
+                    Ok(told) => Ok(Line::With(size, told)),
+                    Err(wrong) => Err(wrong.behind_with()),
+                }
             }
             Some(Keyword::Read) if more.is_empty() => Ok(Line::Read),
             Some(Keyword::Bytes) if more.is_empty() => Ok(Line::Bytes),

@@ -1,5 +1,7 @@
 // What is wrong with a line that is none of a script.
-use std::alloc::{AllocError, AllocFailed};
+ghost use Rattle.std.specs.Prelude.{◌≡◌};
+ghost use Rattle.script.specs.Wrongs.{behind_with};
+
 use thiserror::Error;
 
 /// What is wrong with a line that is none of a script.
@@ -28,8 +30,14 @@ pub enum Wrong {
     NoMemory,
 }
 
-impl From<AllocError> for Wrong {
-    fn from(_error: AllocError) -> Wrong {
-        Wrong::NoMemory
+impl Wrong {
+    /// What is wrong with a line of `with` whose call is wrong: a call that is none is missed.
+    pub(crate) fn behind_with(self) -> Wrong
+        ensures { result ≡ behind_with self }
+    {
+        match self {
+            Wrong::Word => Wrong::With,
+            wrong => wrong,
+        }
     }
 }
