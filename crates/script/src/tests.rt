@@ -14,43 +14,145 @@ struct Case {
 }
 
 const GOOD: [Case; 16] = [
-    Case { line: "new 0", says: "new 0" },
-    Case { line: "new 65532", says: "new 65532" },
-    Case { line: "  new\t0x1c \r", says: "new 28" },
-    Case { line: "put 9 aA", says: "put 9 aa" },
-    Case { line: "put 0x8002 -", says: "put 32770 -" },
-    Case { line: "put 65535 00ff", says: "put 65535 00ff" },
-    Case { line: "open 7", says: "open 7" },
-    Case { line: "open 0xFFFF", says: "open 65535" },
-    Case { line: "close", says: "close" },
-    Case { line: "strike", says: "strike" },
-    Case { line: "with 16777215 close", says: "with 16777215 close" },
-    Case { line: "with 3  put 007 01", says: "with 3 put 7 01" },
-    Case { line: "read", says: "read" },
-    Case { line: "bytes ", says: "bytes" },
-    Case { line: " \t", says: "nothing" },
-    Case { line: " # put", says: "nothing" },
+    Case {
+        line: "new 0",
+        says: "new 0",
+    },
+    Case {
+        line: "new 65532",
+        says: "new 65532",
+    },
+    Case {
+        line: "  new\t0x1c \r",
+        says: "new 28",
+    },
+    Case {
+        line: "put 9 aA",
+        says: "put 9 aa",
+    },
+    Case {
+        line: "put 0x8002 -",
+        says: "put 32770 -",
+    },
+    Case {
+        line: "put 65535 00ff",
+        says: "put 65535 00ff",
+    },
+    Case {
+        line: "open 7",
+        says: "open 7",
+    },
+    Case {
+        line: "open 0xFFFF",
+        says: "open 65535",
+    },
+    Case {
+        line: "close",
+        says: "close",
+    },
+    Case {
+        line: "strike",
+        says: "strike",
+    },
+    Case {
+        line: "with 16777215 close",
+        says: "with 16777215 close",
+    },
+    Case {
+        line: "with 3  put 007 01",
+        says: "with 3 put 7 01",
+    },
+    Case {
+        line: "read",
+        says: "read",
+    },
+    Case {
+        line: "bytes ",
+        says: "bytes",
+    },
+    Case {
+        line: " \t",
+        says: "nothing",
+    },
+    Case {
+        line: " # put",
+        says: "nothing",
+    },
 ];
 
 const BAD: [Case; 18] = [
-    Case { line: "putt 9 aa", says: "no line of a script begins with this word" },
-    Case { line: "New 4", says: "no line of a script begins with this word" },
-    Case { line: "new", says: "new wants a number of bytes" },
-    Case { line: "new 4 4", says: "new wants a number of bytes" },
-    Case { line: "new 0x", says: "new wants a number of bytes" },
-    Case { line: "new 1a", says: "new wants a number of bytes" },
-    Case { line: "new 16777216", says: "new wants a number of bytes" },
-    Case { line: "put", says: "put wants a word and a payload in hexadecimal" },
-    Case { line: "put 9", says: "put wants a word and a payload in hexadecimal" },
-    Case { line: "put 9 a", says: "put wants a word and a payload in hexadecimal" },
-    Case { line: "put 9 aa bb", says: "put wants a word and a payload in hexadecimal" },
-    Case { line: "put 65536 aa", says: "put wants a word and a payload in hexadecimal" },
-    Case { line: "open 0x10000", says: "open wants a type" },
-    Case { line: "close 1", says: "close, strike, read and bytes stand alone" },
-    Case { line: "with close", says: "with wants a number of bytes and a call" },
-    Case { line: "with 3", says: "with wants a number of bytes and a call" },
-    Case { line: "with 3 new 4", says: "with wants a number of bytes and a call" },
-    Case { line: "with 3 open", says: "open wants a type" },
+    Case {
+        line: "putt 9 aa",
+        says: "no line of a script begins with this word",
+    },
+    Case {
+        line: "New 4",
+        says: "no line of a script begins with this word",
+    },
+    Case {
+        line: "new",
+        says: "new wants a number of bytes",
+    },
+    Case {
+        line: "new 4 4",
+        says: "new wants a number of bytes",
+    },
+    Case {
+        line: "new 0x",
+        says: "new wants a number of bytes",
+    },
+    Case {
+        line: "new 1a",
+        says: "new wants a number of bytes",
+    },
+    Case {
+        line: "new 16777216",
+        says: "new wants a number of bytes",
+    },
+    Case {
+        line: "put",
+        says: "put wants a word and a payload in hexadecimal",
+    },
+    Case {
+        line: "put 9",
+        says: "put wants a word and a payload in hexadecimal",
+    },
+    Case {
+        line: "put 9 a",
+        says: "put wants a word and a payload in hexadecimal",
+    },
+    Case {
+        line: "put 9 aa bb",
+        says: "put wants a word and a payload in hexadecimal",
+    },
+    Case {
+        line: "put 65536 aa",
+        says: "put wants a word and a payload in hexadecimal",
+    },
+    Case {
+        line: "open 0x10000",
+        says: "open wants a type",
+    },
+    Case {
+        line: "close 1",
+        says: "close, strike, read and bytes stand alone",
+    },
+    Case {
+        line: "with close",
+        says: "with wants a number of bytes and a call",
+    },
+    Case {
+        line: "with 3",
+        says: "with wants a number of bytes and a call",
+    },
+    Case {
+        line: "with 3 new 4",
+        says: "with wants a number of bytes and a call",
+    },
+    Case {
+        line: "with 3 open",
+        says: "open wants a type",
+    },
 ];
 
 /// A call in words.
