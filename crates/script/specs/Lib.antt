@@ -4,3 +4,5 @@ pub mod Numbers
 pub mod Keywords
 pub mod Lines
 pub mod Sheets
+pub mod Listings
+pub mod Scripts

@@ -1,98 +1,86 @@
 // The calls that build a written form, each as a line.
-ghost use Rattle.std.specs.Prelude.{◌≡◌, ◌≤◌, length, IfOk};
-ghost use Rattle.model.specs.Faults.{answered};
-ghost use Rattle.model.specs.Page.{new_page, only_fault};
+ghost use Rattle.std.specs.Prelude.{◌≡◌, length, vec_items};
+ghost use Rattle.script.specs.Scripts.{Scripted};
+ghost use Rattle.script.specs.declared.calls.Unscripted.TheVariants.{NoMemory};
 
+use crate::lister::list_each;
+use crate::listers::FILTER_OPTIONS;
 use model::fault::{Cause, Fault, Layer};
-use netlink::buffer::NlaBuffer;
 use netlink::nla::LONGEST_PAYLOAD;
 use netlink::walker::NlasIterator;
+use page::call::Call;
 use shown::bytes::Bytes;
+use std::alloc::{AllocError, Global};
 use std::fmt;
-use std::fmt::Display;
-use tc_filter::action_attribute::TCA_ACT_OPTIONS;
-use tc_filter::cls_u32::TCA_U32_ACT;
 
-/// The calls that build a filter's written form on a new page of just its length, as the lines of a script; at the end the page is read and told.
-#[derive(Clone, Copy)]
+/// The calls that build a filter's written form on a new page of just its length. It is shown as the lines of a script, at the end of which the page is read and told.
+#[derive(Drop)]
 pub struct Script<'a> {
-    written: &'a [u8],
-    ghost short: { length written.now ≤ 65531 },
+    size: usize,
+    calls: Vec<Call<'a>>,
+}
+
+/// Why there is no script for a written form.
+#[derive(Clone, Copy, Debug)]
+pub enum Unscripted {
+    /// It is too long for a page.
+    Refused(Fault),
+    /// No memory was found for the calls.
+    NoMemory,
+}
+
+impl From<AllocError> for Unscripted {
+    ghost from_gives = { λ _ r. r ≡ NoMemory };
+
+    fn from(_error: AllocError) -> Unscripted {
+        Unscripted::NoMemory
+    }
 }
 
 impl<'a> Script<'a> {
-    /// The script for a written form. One that is too long for a page is refused by cause 1, as the page would be.
-    pub fn of(written: &'a [u8]) -> Result<Script<'a>, Fault>
-        ensures refusal { only_fault (answered result) ≡ only_fault (new_page (length written.now)) }
-        ensures whole { IfOk result (λ s. s.written.now ≡ written.now) }
+    /// The script for a written form: the calls by which a filter is built on a page. A form that is too long for a page is refused by cause 1, as the page would be.
+    pub fn of(heap: Global, written: &'a [u8]) -> Result<Script<'a>, Unscripted>
+        ensures { Scripted written.now result }
     {
         if written.len() > LONGEST_PAYLOAD {
-            return Err(Fault::new(Cause::TooLong, 0, Layer::FilterOption));
+            let fault = Fault::new(Cause::TooLong, 0, Layer::FilterOption);
+            return Err(Unscripted::Refused(fault));
         }
-        Ok(Script { written })
+        let mut calls = Vec::new(heap);
+        let walk = NlasIterator::new(written, Layer::FilterOption);
+        list_each(&FILTER_OPTIONS, &mut calls, walk)?;
+        Ok(Script {
+            size: written.len(),
+            calls,
+        })
     }
 }
 
-/// The call that puts an attribute.
+/// A call as a line.
 #[derive(Clone, Copy)]
-struct Put<'a>(NlaBuffer<'a>);
+struct CallLine<'a>(Call<'a>);
 
-impl<'a> fmt::Display for Put<'a> {
+impl<'a> fmt::Display for CallLine<'a> {
     fn fmt<W: fmt::Write>(&self, f: &mut fmt::Formatter<W>) -> fmt::Result {
-        let word = self.0.word;
-        let payload = Bytes(self.0.value);
-        writeln!(f, "put 0x{word:04x} {payload}")
-    }
-}
-
-/// The options of an action, each put.
-fn write_options<W: fmt::Write>(f: &mut fmt::Formatter<W>, walk: NlasIterator<'_>) -> fmt::Result {
-    for option in walk.filter_map(Result::ok) {
-        Put(option).fmt(f)?;
-    }
-    Ok(())
-}
-
-/// The attributes of an action, each put; a list of options is a nest.
-fn write_attributes<W: fmt::Write>(
-    f: &mut fmt::Formatter<W>,
-    walk: NlasIterator<'_>,
-) -> fmt::Result {
-    for attribute in walk.filter_map(Result::ok) {
-        if attribute.kind() != TCA_ACT_OPTIONS {
-            Put(attribute).fmt(f)?;
-            continue;
+        match self.0 {
+            Call::Put(word, payload) => {
+                let payload = Bytes(payload);
+                write!(f, "put 0x{word:04x} {payload}")
+            }
+            Call::Open(kind) => write!(f, "open {kind}"),
+            Call::Close => f.write_str("close"),
+            Call::Strike => f.write_str("strike"),
         }
-        writeln!(f, "open {TCA_ACT_OPTIONS}")?;
-        write_options(f, attribute.nested(Layer::ActionOption))?;
-        f.write_str("close\n")?;
     }
-    Ok(())
-}
-
-/// Actions, each a nest by its type.
-fn write_actions<W: fmt::Write>(f: &mut fmt::Formatter<W>, walk: NlasIterator<'_>) -> fmt::Result {
-    for action in walk.filter_map(Result::ok) {
-        let kind = action.kind();
-        writeln!(f, "open {kind}")?;
-        write_attributes(f, action.nested(Layer::ActionAttribute))?;
-        f.write_str("close\n")?;
-    }
-    Ok(())
 }
 
 impl<'a> fmt::Display for Script<'a> {
     fn fmt<W: fmt::Write>(&self, f: &mut fmt::Formatter<W>) -> fmt::Result {
-        let size = self.written.len();
+        let size = self.size;
         writeln!(f, "new {size}")?;
-        for option in NlasIterator::new(self.written, Layer::FilterOption).filter_map(Result::ok) {
-            if option.kind() != TCA_U32_ACT {
-                Put(option).fmt(f)?;
-                continue;
-            }
-            writeln!(f, "open {TCA_U32_ACT}")?;
-            write_actions(f, option.nested(Layer::Action))?;
-            f.write_str("close\n")?;
+        for call in self.calls.as_slice() {
+            let line = CallLine(*call);
+            writeln!(f, "{line}")?;
         }
         f.write_str("read\nbytes\n")
     }

@@ -4,6 +4,8 @@
 pub mod calls;
 pub mod keyword;
 pub mod line;
+mod lister;
+mod listers;
 pub mod number;
 pub mod sheet;
 #[cfg(test)]

@@ -255,7 +255,7 @@ fn built(heap: Global, script: &str) -> Result<String, Fail> {
 
 #[test]
 fn there_and_back(rt: HostRuntime) -> Result<(), Fail> {
-    let script = Script::of(WRITTEN.as_slice()).ok();
+    let script = Script::of(rt.alloc(), WRITTEN.as_slice()).ok();
     let text = match script {
         Some(script) => format!(in rt.alloc(); "{script}")?,
         None => String::new(rt.alloc()),
