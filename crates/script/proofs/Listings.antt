@@ -1,16 +1,10 @@
 -- Calls one after another, as turns. Assumes nothing.
-use Rattle.std.proofs.Common.{◌≡◌, ℕ, List, [], ◌∷◌, ◌++◌, Some, Ok, Result, sym, refl, ap, ◌∙◌, subst, append_assoc}
-use Rattle.model.specs.Numbers.{Bytes}
+use Rattle.std.proofs.Common.{◌≡◌, ℕ, List, [], ◌∷◌, ◌++◌, refl, ap, ◌∙◌, append_assoc}
 use Rattle.model.specs.Page.{open_nest, close}
 use Rattle.model.specs.Runs.{Turn, with_own_memory}
-use Rattle.model.specs.Walk.{Walked, item}
-use Rattle.model.specs.declared.fault.Fault.{Fault}
-use Rattle.netlink.specs.declared.buffer.NlaBuffer.{NlaBuffer}
-use Rattle.netlink.specs.declared.walker.NlasIterator.{NlasIterator}
-use Rattle.netlink.specs.Walking.{Goes}
 use Rattle.page.specs.declared.call.Call.{Call}
 use Rattle.page.specs.Calls.{meant}
-use Rattle.page_build.specs.Fillings.{TurnsAt, row_turns, nest_turns}
+use Rattle.page_build.specs.Fillings.{nest_turns}
 use Rattle.script.specs.Listings.{own_turns}
 
 own_append : (xs ys : List Call) → own_turns (xs ++ ys) ≡ own_turns xs ++ own_turns ys

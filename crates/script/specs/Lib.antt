@@ -6,3 +6,4 @@ pub mod Lines
 pub mod Sheets
 pub mod Listings
 pub mod Scripts
+pub mod Readings

@@ -1,6 +1,5 @@
 -- The calls of a script, and those for a written form. Assumes nothing.
-use Rattle.std.specs.Prelude.{◌≡◌, ℕ, ◌<◌, List, [], ◌∷◌, length, Ok, Err, Result, vec_items}
-use Rattle.model.specs.Numbers.{Bytes}
+use Rattle.std.specs.Prelude.{List, [], ◌∷◌}
 use Rattle.model.specs.Runs.{Turn, with_own_memory}
 use Rattle.page.specs.declared.call.Call.{Call}
 use Rattle.page.specs.Calls.{meant}

@@ -1,5 +1,7 @@
 // The calls that build a written form, each as a line.
-ghost use Rattle.std.specs.Prelude.{◌≡◌, length, vec_items};
+ghost use Rattle.std.specs.Prelude.{◌≡◌, vec_items, IfOk};
+ghost use Rattle.script.specs.Listings.{own_turns};
+ghost use Rattle.script.specs.Readings.{HasReadingTurns};
 ghost use Rattle.script.specs.Scripts.{Scripted};
 ghost use Rattle.script.specs.declared.calls.Unscripted.TheVariants.{NoMemory};
 
@@ -40,7 +42,8 @@ impl From<AllocError> for Unscripted {
 impl<'a> Script<'a> {
     /// The script for a written form: the calls by which a filter is built on a page. A form that is too long for a page is refused by cause 1, as the page would be.
     pub fn of(heap: Global, written: &'a [u8]) -> Result<Script<'a>, Unscripted>
-        ensures { Scripted written.now result }
+        ensures value { Scripted written.now result }
+        ensures builds { IfOk result (λ s. HasReadingTurns written.now (own_turns (vec_items s.calls))) }
     {
         if written.len() > LONGEST_PAYLOAD {
             let fault = Fault::new(Cause::TooLong, 0, Layer::FilterOption);

@@ -1,9 +1,7 @@
-use Rattle.std.proofs.Common.{◌≡◌, ◌≤◌, ℕ, List, rules, length, take, sym, ap, ◌∙◌, Some, None, cond, nat_lt, arith}
+use Rattle.std.proofs.Common.{◌≡◌, rules, sym, ◌∙◌}
 use borrow.Author.Tests.{tests}
-use Rattle.std.specs.List.{position_or_len}
 use Rattle.std.proofs.lemmas.Iterator.{YieldsList-from_slice}
 use Rattle.std.proofs.lemmas.Iterator.Search.{position_from_yields_List}
-use Rattle.std.proofs.lemmas.Option.{cond_some}
 use Rattle.hexadecimal.specs.PlainText.{blank}
 use Rattle.script.proofs.Blanks.{first_blank, blank_at, blank_none}
 use Rattle.script.proofs.words.first_word.Goals as goal
