@@ -14,6 +14,10 @@ pub enum Command {
     Same,
     /// Answer the lines of the standard input.
     Lines,
+    /// Answer the lines of a script of a page's calls.
+    Page,
+    /// Show the calls that build a filter's written form.
+    Build,
     /// Say how the tool is called.
     Usage,
 }
@@ -28,6 +32,8 @@ impl Command {
             ("write", 1) => Command::Write,
             ("same", 2) => Command::Same,
             ("lines", 0) => Command::Lines,
+            ("page", 1) => Command::Page,
+            ("build", 1) => Command::Build,
             _ => Command::Usage,
         }
     }

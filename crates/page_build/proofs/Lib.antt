@@ -1,3 +1,3 @@
-mod ReadingTurns
+pub mod ReadingTurns
 mod Rows
 mod Builds

@@ -1,10 +1,12 @@
 // The tool: shows how filters are read, how they are written, and whether two are one entry.
 #![tactic(auto)]
 
+mod building;
 mod files;
 mod lines;
 mod reading;
 mod sameness;
+mod scripts;
 mod tool;
 mod writing;
 
@@ -26,6 +28,8 @@ impl<'r, W: Write> Tool<'r, W> {
                 self.compare_files(first.as_str(), second.as_str())
             }
             (Command::Lines, []) => self.answer_lines(),
+            (Command::Page, [script]) => self.run_script(script.as_str()),
+            (Command::Build, [file]) => self.build_file(file.as_str()),
             _ => {
                 self.status = ExitCode::FAILURE;
                 self.out.write_all(USAGE.as_bytes())

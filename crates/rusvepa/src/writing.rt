@@ -17,7 +17,7 @@ pub(crate) fn write_form(filter: &[u8], written: &mut Vec<u8>) -> Result<(), Tro
 
 impl<'r, W: Write> Tool<'r, W> {
     /// The written form of the filter in a file.
-    fn form_of(&self, path: &str) -> Result<Vec<u8>, Trouble> {
+    pub(crate) fn form_of(&self, path: &str) -> Result<Vec<u8>, Trouble> {
         let filter = self.load(path)?;
         let mut written = Vec::new(self.rt.alloc());
         write_form(filter.as_slice(), &mut written)?;

@@ -1,0 +1,9 @@
+pub mod Wrongs
+pub mod Words
+pub mod Numbers
+pub mod Keywords
+pub mod Lines
+pub mod Sheets
+pub mod Listings
+pub mod Scripts
+pub mod Readings
