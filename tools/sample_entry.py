@@ -8,6 +8,7 @@ CAUSES = {
     6: "fewer than 4 bytes remain where an attribute must begin",
     7: "the length field exceeds the bytes remaining",
     8: "the length field is below 4",
+    10: "the action has no kind",
 }
 LAYERS = {1: "filter option", 2: "action", 3: "action attribute", 4: "action option"}
 
@@ -18,11 +19,17 @@ def attribute(word, payload):
     return struct.pack("<HH", length, word) + payload + bytes(-length % 4)
 
 
-def entry(kind):
-    """Class 1:1, a selector with one key, and one mirror action with its kind spelt so."""
-    class_id = attribute(1, struct.pack("<HH", 1, 1))  # minor, major
+def parts():
+    """Word and payload of class 1:1, of a selector with one key, and of the parameters of a mirror action."""
+    class_id = struct.pack("<HH", 1, 1)  # minor, major
     head = struct.pack("<BBBB", 1, 0, 1, 0) + struct.pack(">H", 0) + struct.pack("<Hhh", 0, 0, 0) + struct.pack(">I", 0)
     key = struct.pack(">II", 0xFFFF, 10001) + struct.pack("<ii", 20, 0)
     mirror = struct.pack("<IIiii", 1, 0, 3, 0, 0) + struct.pack("<iI", 2, 7)
-    action = attribute(1, attribute(1, kind) + attribute(0x8002, attribute(2, mirror)))
-    return class_id + attribute(5, head + key) + attribute(7, action)
+    return (1, class_id), (5, head + key), (2, mirror)
+
+
+def entry(kind):
+    """Class 1:1, a selector with one key, and one mirror action with its kind spelt so."""
+    class_id, selector, mirror = parts()
+    action = attribute(1, attribute(1, kind) + attribute(0x8002, attribute(*mirror)))
+    return attribute(*class_id) + attribute(*selector) + attribute(7, action)

@@ -12,7 +12,7 @@ use wording::fault::Sentence;
 
 /// Why there is no written form.
 #[derive(Debug, Drop, Error)]
-enum Unwritten {
+pub(crate) enum Unwritten {
     #[error("Not written out: no memory.")]
     NoMemory(#[from(alloc)] AllocError),
     #[error("Not written out.")]
@@ -20,7 +20,7 @@ enum Unwritten {
 }
 
 /// An entry's written form, with the shipped book.
-fn written(heap: Global, filter: &[u8]) -> Result<Vec<u8>, Unwritten> {
+pub(crate) fn written(heap: Global, filter: &[u8]) -> Result<Vec<u8>, Unwritten> {
     let mut output = vec![in heap; 0u8; written_len(&ShippedBook, filter)?]?;
     write_out(&ShippedBook, filter, output.as_mut_slice())?;
     Ok(output)
