@@ -18,6 +18,7 @@ use std::fmt;
 /// The calls that build a filter's written form on a new page of just its length. It is shown as the lines of a script, at the end of which the page is read and told.
 #[derive(Drop)]
 pub struct Script<'a> {
+    // The length of the page that the calls fill, and no length of `calls`.
     size: usize,
     calls: Vec<Call<'a>>,
 }

@@ -12,6 +12,7 @@ use hexadecimal::plain_text::trimmed;
 use page::call::Call;
 use std::alloc::Global;
 
+// No `page::call::Call`, which borrows its payload: a line has it in hexadecimal, so its bytes are held here.
 /// A call as a line tells it, with the payload's bytes.
 #[derive(Drop)]
 pub enum Told {

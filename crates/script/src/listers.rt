@@ -9,6 +9,7 @@ use std::alloc::AllocError;
 use tc_filter::action_attribute::TCA_ACT_OPTIONS;
 use tc_filter::cls_u32::TCA_U32_ACT;
 
+// The same three ways as in `page_build`, which makes the calls on a page and needs no heap; here they are listed, which fails where no memory is found.
 /// Each attribute is put.
 #[derive(Drop)]
 pub(crate) struct Puts;
