@@ -2,3 +2,5 @@
 #![tactic(auto)]
 
 pub mod entry;
+#[cfg(test)]
+mod tests;
