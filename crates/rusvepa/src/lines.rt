@@ -73,10 +73,16 @@ impl Desk {
 impl<'r, W: Write> Tool<'r, W> {
     /// Answers each line of the standard input with a line.
     pub(crate) fn answer_lines(&mut self) -> io::Result<()> {
-        let input = BufReader::new(self.rt.alloc(), self.rt.stdin())?;
+        let mut input = BufReader::new(self.rt.alloc(), self.rt.stdin())?;
         let mut desk = Desk::new(self.rt.alloc());
-        for line in input.split(self.rt.alloc(), b'\n') {
-            desk.answer(line?.as_slice(), &mut self.out)?;
+        // No `split`, which takes memory for each line: a short line took twice the time.
+        let mut line = Vec::new(self.rt.alloc());
+        for _ in 0..u64::MAX {
+            line.clear();
+            if input.read_until(b'\n', &mut line)? == 0 {
+                break;
+            }
+            desk.answer(line.as_slice(), &mut self.out)?;
         }
         Ok(())
     }

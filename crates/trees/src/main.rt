@@ -20,11 +20,17 @@ fn show<W: Write>(filter: &[u8], out: &mut W) -> io::Result<()> {
 }
 
 fn main(rt: HostRuntime) -> io::Result<()> {
-    let input = BufReader::new(rt.alloc(), rt.stdin())?;
+    let mut input = BufReader::new(rt.alloc(), rt.stdin())?;
     let mut out = BufWriter::new(rt.alloc(), rt.stdout())?;
+    // No `split`, which takes memory for each line.
+    let mut line = Vec::new(rt.alloc());
     let mut filter = Vec::new(rt.alloc());
-    for line in input.split(rt.alloc(), b'\n') {
-        match decode(trimmed(line?.as_slice()), &mut filter) {
+    for _ in 0..u64::MAX {
+        line.clear();
+        if input.read_until(b'\n', &mut line)? == 0 {
+            break;
+        }
+        match decode(trimmed(line.as_slice()), &mut filter) {
             Ok(()) => show(filter.as_slice(), &mut out)?,
             Err(_) => out.write_all(b"not hex\n")?,
         }
