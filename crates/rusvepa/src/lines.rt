@@ -75,7 +75,7 @@ impl<'r, W: Write> Tool<'r, W> {
     pub(crate) fn answer_lines(&mut self) -> io::Result<()> {
         let mut input = BufReader::new(self.rt.alloc(), self.rt.stdin())?;
         let mut desk = Desk::new(self.rt.alloc());
-        // No `split`, which takes memory for each line: a short line took twice the time.
+        // No `split`, which takes memory for each line.
         let mut line = Vec::new(self.rt.alloc());
         for _ in 0..u64::MAX {
             line.clear();
