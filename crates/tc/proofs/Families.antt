@@ -23,6 +23,11 @@ use Rattle.tc_options.specs.declared.option.TcActionOption.TheVariants.{Mirror, 
 use Rattle.tc.specs.Families.{told}
 use Rattle.tc.proofs.Told.{octets, record_told, exact-told, be_again, byte_again, flag_again}
 
+-- an option in a case of a larger type tells what it told
+pub carried-told : {O Q : Type 0} (f : O → Q) (word : Q → ℕ) (payload : Q → Bytes) (r : Result O Lack) → told word payload (carried f r) ≡ told (λ o. word (f o)) (λ o. payload (f o)) r
+carried-told f word payload (Ok o) = refl
+carried-told f word payload (Err e) = refl
+
 module _ (w : ℕ) (x : Bor Bytes) (o : Octets x.now) where
   abbrev option : NlaBuffer
   option = record { place = 0; word = w; value = x }
@@ -67,10 +72,6 @@ module _ (w : ℕ) (x : Bor Bytes) (o : Octets x.now) where
   tunnel_key-told = tunnel_key-at (type_of w) refl
 
   -- ── by the kind ──
-  carried-told : {O Q : Type 0} (f : O → Q) (word : Q → ℕ) (payload : Q → Bytes) (r : Result O Lack) → told word payload (carried f r) ≡ told (λ o. word (f o)) (λ o. payload (f o)) r
-  carried-told f word payload (Ok o) = refl
-  carried-told f word payload (Err e) = refl
-
   by_kind : (a b c : Bool) →
       told option_word option_payload (cond a (carried Mirror (mirror_option option)) (cond b (carried Nat (nat_option option)) (cond c (carried TunnelKey (tunnel_key_option option)) (Ok (Other (record { word = w; value = x }))))))
       ≡ judge (get_or (cond a mirred_forms (cond b nat_forms (cond c tunnel_key_forms []))) (type_of w) default) w x.now

@@ -1,25 +1,19 @@
-use Rattle.std.proofs.Common.{◌≡◌, Ok, Err, Result, ap, ◌∙◌}
-use Rattle.std.specs.Result.{IsErr, IsErrAnd}
-use Rattle.model.specs.Book.{judgement, written_as, refused_by}
-use Rattle.model.specs.Faults.{cause_number}
-use Rattle.payload.specs.declared.error.DecodeError.{DecodeError}
-use Rattle.tc.specs.Judgements.{judged, refusal_of}
-use Rattle.tc.specs.declared.book.Judged.{Judged}
-use Rattle.tc.specs.declared.book.Refusal.{Refusal}
-use Rattle.tc.proofs.Families.{option-answer}
+use Rattle.std.proofs.Common.{ap, ◌∙◌}
+use Rattle.model.specs.Book.{judgement}
+use Rattle.tc_options.specs.Mirrors.{mirror_option}
+use Rattle.tc_options.specs.Nats.{nat_option}
+use Rattle.tc_options.specs.TunnelKeys.{tunnel_key_option}
+use Rattle.tc.proofs.Named.{mirror-answer, nat-answer, tunnel_key-answer}
 use Rattle.tc.proofs.shipped.ShippedBookBook.judge.Goals as goal
 
--- what `?` hands on of an error is its refusal
-refused : (e : DecodeError) (r : Result Judged Refusal) → IsErr r → IsErrAnd r (λ f. f ≡ refusal_of e) → judged r ≡ refused_by (cause_number e.cause) e.need
-refused e (Ok j) h g = cc h
-refused e (Err f) h g = ap (λ (x : Refusal). refused_by x.number x.need) g
+pub returns-in-Mirror : goal.returns-in-Mirror
+returns-in-Mirror c =
+    c.verdict.ensures ∙ ap judgement (mirror-answer c.args.kind.now c.args.word c.args.payload c.type_inv.payload c.in-Mirror.ensures (c.parse.ensures ∙ ap mirror_option c.asked-option.ensures))
 
-pub returns-in_err-option : goal.returns-in_err-option
-returns-in_err-option c =
-    refused c.in_err-option.field-0.0 c.from_residual.result c.from_residual.ensures.0 c.from_residual.ensures.1
-    ∙ ap judgement (option-answer c.args.kind.now c.args.word c.args.payload c.type_inv.payload c.in_err-option.ensures)
+pub returns-in-Nat : goal.returns-in-Nat
+returns-in-Nat c =
+    c.verdict-in-Nat.ensures ∙ ap judgement (nat-answer c.args.kind.now c.args.word c.args.payload c.type_inv.payload c.in-Nat.ensures (c.parse-in-Nat.ensures ∙ ap nat_option c.asked-option.ensures))
 
-pub returns : goal.returns
-returns c =
-    (λ i. written_as (c.kind.ensures i) (c.value_len.ensures i))
-    ∙ ap judgement (option-answer c.args.kind.now c.args.word c.args.payload c.type_inv.payload c.in_ok-option.ensures)
+pub returns-in-TunnelKey : goal.returns-in-TunnelKey
+returns-in-TunnelKey c =
+    c.verdict-in-TunnelKey.ensures ∙ ap judgement (tunnel_key-answer c.args.kind.now c.args.word c.args.payload c.type_inv.payload c.in-TunnelKey.ensures (c.parse-in-TunnelKey.ensures ∙ ap tunnel_key_option c.asked-option.ensures))
